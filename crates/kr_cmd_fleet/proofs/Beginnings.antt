@@ -6,7 +6,7 @@ use Rattle.kr_opening.specs.declared.opening_board.StartNo.{StartNo}
 use Rattle.kr_opening.specs.declared.opening_board.StartNo.TheVariants as no
 use Rattle.kr_store.specs.Stores.{Kept}
 use Rattle.kr_watch.specs.declared.item.Item.{Item}
-use Rattle.kr_cmd_steps.specs.Around.{Around}
+use Rattle.kr_cmd_steps.specs.Environment.{Environment}
 use Rattle.kr_cmd_fleet.specs.Fleets.{Replicas, starting}
 use Rattle.kr_cmd_fleet.specs.declared.fleet_file.LoadedFleet.{LoadedFleet}
 use Rattle.kr_cmd_messages.specs.declared.refusal.Refusal.TheVariants.{Stray, OtherSecret, Unfit}
@@ -15,11 +15,11 @@ use Rattle.kr_cmd_steps.specs.inner.Starts.{start_stop}
 use Rattle.kr_cmd_fleet.specs.inner.Plans.{plan_of}
 use Rattle.kr_cmd_steps.specs.inner.Phases.{Does}
 use Rattle.kr_cmd_steps.specs.inner.Tapes.{stored_of}
-use Rattle.kr_cmd_steps.proofs.Goes.{home_refl, reach}
+use Rattle.kr_cmd_steps.proofs.RunTo.{home_refl, reach}
 
 -- ---- the core
 
-module _ (plan : LoadedFleet) (budgets : List ℕ) (store : Kept) (replicas : Replicas) (a : Around)
+module _ (plan : LoadedFleet) (budgets : List ℕ) (store : Kept) (replicas : Replicas) (a : Environment)
     (items : List Item) where
   pub started : MayStart store.rows (settings_of replicas)
       → Does (starting (plan_of plan) (stored_of store) budgets replicas items) a a

@@ -2,11 +2,11 @@
 use Rattle.std.proofs.Common.{◌≡◌, ℕ, ◌⊎◌, Bool, true, List, [], Option, Result, Ok, Err, refl, sym, ◌∙◌, subst, inl, inr}
 use Rattle.kr_kms.specs.Calls.{Link}
 use Rattle.kr_kms.specs.Exchanges.{Exchange}
-use Rattle.kr_cmd_steps.specs.Around.{Around, IsHome, left_of}
+use Rattle.kr_cmd_steps.specs.Environment.{Environment, IsHome, step_state}
 use Rattle.kr_cmd_steps.specs.Ran.{WroteNothing}
 use Rattle.kr_cmd_steps.specs.Steps.{hearing}
 use Rattle.kr_cmd_steps.specs.inner.Phases.{Does}
-use Rattle.kr_cmd_steps.proofs.Goes.{goes_on, home_refl, home_trans, reach, stays_refl, stops}
+use Rattle.kr_cmd_steps.proofs.RunTo.{goes_on, home_refl, home_trans, reach, stays_refl, stops}
 use Rattle.kr_cmd_steps.proofs.Hearing.{heard_none}
 use Rattle.kr_cmd_messages.specs.Receipts.{Receipt}
 use Rattle.kr_cmd_messages.specs.declared.fleet_words.FleetWords.{FleetWords}
@@ -21,7 +21,7 @@ use Rattle.kr_cmd_fleet.specs.inner.Workings.{BeginsLent}
 use Rattle.kr_cmd_fleet.proofs.StartExchanges.{none_were}
 
 -- a plan was made of the file that the words name, and their store is to be opened
-pub record IsPlanned (words : FleetWords) (plan : FleetPlan) (old now : Around)
+pub record IsPlanned (words : FleetWords) (plan : FleetPlan) (old now : Environment)
     (file store : List ℕ) : Type 0 where
   pub file_is : file ≡ words.file
   pub planned : Does (planning file words.options) old now (Ok plan)
@@ -31,7 +31,7 @@ module _ (T : Type 0) {L D : Type 0} (link : L → Link) (step : L → Exchange 
     (lent took : ℕ → L → Type 0) (left : D → Option (List ℕ)) (count : D → ℕ)
     (words : FleetWords) (watched : Bool) where
   -- nothing was written, these exchanges were heard, and the links came back
-  pub record Stopped (old new : Around) (output : Receipt) (stop : Stop) : Type 0 where
+  pub record Stopped (old new : Environment) (output : Receipt) (stop : Stop) : Type 0 where
     pub home : IsHome old new
     pub exchanges : List Exchange
     pub heard : new.heard ≡ hearing exchanges old.heard
@@ -42,19 +42,19 @@ module _ (T : Type 0) {L D : Type 0} (link : L → Link) (step : L → Exchange 
         (steps_of_fleet watched words) words.store old new output (Err stop) before
 
   -- the words weren't read, since memory lacked
-  pub unbegun : (a : Around) (output : Receipt) → WroteNothing output
+  pub unbegun : (a : Environment) (output : Receipt) → WroteNothing output
       → Stopped a a output NoMemory
   unbegun a output idle = record {
     home = home_refl a;
     exchanges = [];
     heard = sym (heard_none a.heard);
     asked = none_were link lent took step refl;
-    before = (inl (inr (reach (left_of a) (inl (refl, refl)) (stays_refl a))), idle);
+    before = (inl (inr (reach (step_state a) (inl (refl, refl)) (stays_refl a))), idle);
     came = refl;
   }
 
   -- the plan wasn't made
-  pub unplanned : (old new : Around) (file : List ℕ) → file ≡ words.file → (stop : Stop)
+  pub unplanned : (old new : Environment) (file : List ℕ) → file ≡ words.file → (stop : Stop)
       (output : Receipt) → Does (planning file words.options) old new (Err stop)
       → WroteNothing output → new.heard ≡ old.heard → new.world.links ≡ old.world.links
       → Stopped old new output stop
@@ -66,14 +66,14 @@ module _ (T : Type 0) {L D : Type 0} (link : L → Link) (step : L → Exchange 
         exchanges = [];
         heard = same ∙ sym (heard_none old.heard);
         asked = none_were link lent took step links;
-        before = (inl (all.ends (left_of old) (stays_refl old)), idle);
+        before = (inl (all.ends (step_state old) (stays_refl old)), idle);
         came = refl;
       }
 
 module _ (T : Type 0) {L D : Type 0} (link : L → Link) (step : L → Exchange → L → Type 0)
     (lent took : ℕ → L → Type 0) (left : D → Option (List ℕ)) (count : D → ℕ) (watched : Bool)
-    {words : FleetWords} {plan : FleetPlan} {old now : Around} {file store : List ℕ}
-    (made : IsPlanned words plan old now file store) (new : Around) (exchanges : List Exchange)
+    {words : FleetWords} {plan : FleetPlan} {old now : Environment} {file store : List ℕ}
+    (made : IsPlanned words plan old now file store) (new : Environment) (exchanges : List Exchange)
     (asked : WereAsked link lent took step exchanges old.world new.world) where
   abbrev pub Lent : Beginning T L D
   Lent = BeginsLent (hearing exchanges old.heard) exchanges step lent took asked.begun asked.back
@@ -83,7 +83,7 @@ module _ (T : Type 0) {L D : Type 0} (link : L → Link) (step : L → Exchange 
       made.planned
 
   -- the steps over the store go on from the plan
-  pub from_plan : {end : Around} {result : Result Begun Stop}
+  pub from_plan : {end : Environment} {result : Result Begun Stop}
       → Does (over_store watched words.store plan) now end result
       → Does (steps_of_fleet watched words) old end result
   from_plan d = goes_on (planning words.file words.options) (over_store watched words.store) plan
@@ -104,7 +104,7 @@ module _ (T : Type 0) {L D : Type 0} (link : L → Link) (step : L → Exchange 
     exchanges = exchanges;
     heard = heard;
     asked = asked;
-    before = (inl (all.ends (left_of old) (stays_refl old)), idle);
+    before = (inl (all.ends (step_state old) (stays_refl old)), idle);
     came = unasked;
   }
   ends_so stop output heard (inl (unasked, inr l)) idle = let all = from_plan l.does in record {
@@ -115,7 +115,7 @@ module _ (T : Type 0) {L D : Type 0} (link : L → Link) (step : L → Exchange 
     before = (
       inr (inl (
         l.stops,
-        (l.mid, l.begun, all.ends (left_of old) (stays_refl old), l.none, all.home),
+        (l.mid, l.begun, all.ends (step_state old) (stays_refl old), l.none, all.home),
       )),
       idle,
     );
@@ -127,7 +127,7 @@ module _ (T : Type 0) {L D : Type 0} (link : L → Link) (step : L → Exchange 
     heard = heard;
     asked = asked;
     before = (
-      inr (inr (l.mid, l.begun, all.ends (left_of old) (stays_refl old), l.fails, all.home)),
+      inr (inr (l.mid, l.begun, all.ends (step_state old) (stays_refl old), l.fails, all.home)),
       idle,
     );
     came = (l.begins.3, l.begins.4, l.begins.1);
@@ -144,7 +144,7 @@ module _ (T : Type 0) {L D : Type 0} (link : L → Link) (step : L → Exchange 
 -- the steps behind the plan ended the command
 pub stopped : {T L D : Type 0} {link : L → Link} {step : L → Exchange → L → Type 0}
     {lent took : ℕ → L → Type 0} {left : D → Option (List ℕ)} {count : D → ℕ} {watched : Bool}
-    {words : FleetWords} {plan : FleetPlan} {old now new : Around} {file store : List ℕ}
+    {words : FleetWords} {plan : FleetPlan} {old now new : Environment} {file store : List ℕ}
     {exchanges : List Exchange} (made : IsPlanned words plan old now file store)
     (heard : new.heard ≡ hearing exchanges old.heard)
     (asked : WereAsked link lent took step exchanges old.world new.world) (stop : Stop)

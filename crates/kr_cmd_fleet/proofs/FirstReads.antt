@@ -23,7 +23,7 @@ use Rattle.kr_store.proofs.Listings.{nexts_are_listing}
 use Rattle.kr_watch.specs.declared.item.Item.{Item}
 use Rattle.kr_cmd_messages.specs.declared.refusal.Stop.{Stop}
 use Rattle.kr_cmd_messages.specs.declared.refusal.Stop.TheVariants.{NoMemory}
-use Rattle.kr_cmd_steps.specs.Around.{Around, with_exchanges}
+use Rattle.kr_cmd_steps.specs.Environment.{Environment, with_exchanges}
 use Rattle.kr_cmd_steps.specs.ValueSteps.{none_kept}
 use Rattle.kr_cmd_steps.specs.inner.Phases.{Does}
 use Rattle.kr_cmd_steps.specs.inner.ProgramNames.{names_in}
@@ -39,7 +39,7 @@ use Rattle.kr_cmd_fleet.specs.inner.Plans.{IsWholePlan, named, plan_of}
 use Rattle.kr_cmd_fleet.specs.inner.Readings.{AreReadOf, HasFirst, IsFirst, IsReadable, KnowsItems, first_in, items_in, read_in}
 use Rattle.kr_cmd_steps.specs.Steps.{Steps, find, give}
 use Rattle.kr_cmd_steps.specs.inner.Tapes.{walk_path}
-use Rattle.kr_cmd_steps.proofs.Goes.{given, goes_on, home_refl, reach}
+use Rattle.kr_cmd_steps.proofs.RunTo.{given, goes_on, home_refl, reach}
 use Rattle.kr_cmd_fleet.proofs.Plans.{plan_names}
 use Rattle.kr_cmd_steps.proofs.Hearing.{around_none}
 use Rattle.kr_cmd_fleet.proofs.Publishings.{first_asks, first_later, heard_first, published_among}
@@ -163,13 +163,13 @@ passed_all format rows passed are so_far end = nexts_are_listing format rows pas
 -- ---- the steps
 
 pub lacks_live : (rows : List LogRow) (p : Publication) (others : List (Option Publication))
-    (a : Around) → Does (reading_live rows (Some p ∷ others)) a a (Err NoMemory)
+    (a : Environment) → Does (reading_live rows (Some p ∷ others)) a a (Err NoMemory)
 lacks_live rows p others a =
     record { home = home_refl a; ends = λ l s. inr (reach l (inl (refl, refl)) s) }
 
 -- this listing was found, and then its rows were read so
 pub live_does : (rows : List LogRow) (p : Publication) (others : List (Option Publication))
-    (listing : List Row) → IsListing rows listing → (old new : Around)
+    (listing : List Row) → IsListing rows listing → (old new : Environment)
     (result : Result (List Item) Stop)
     → Does (reading_rows p listing [] none_kept) old new result
     → Does (reading_live rows (Some p ∷ others)) old new result
@@ -201,10 +201,10 @@ IsReadAs made (Err stop) = made ≡ Err stop
 
 module _ {L D : Type 0} (link : L → Link) (step : L → Exchange → L → Type 0)
     (left : D → Option (List ℕ)) (count : D → ℕ) where
-  abbrev With : List (Outfit L D) → Around → Around
+  abbrev With : List (Outfit L D) → Environment → Environment
   With outfits a = with_outfits link left count 0 outfits a
 
-  abbrev First : Outfit L D → List L → Around → Around
+  abbrev First : Outfit L D → List L → Environment → Environment
   First first links a = with_first link links (left first.dice) (count first.dice) a
 
   -- how the live rows were read with these outfits, by what was asked
@@ -212,7 +212,7 @@ module _ {L D : Type 0} (link : L → Link) (step : L → Exchange → L → Typ
       → (outfits back : List (Outfit L D)) → Result WatchStart Stop → Type 0
   ReadsLive watched rows replicas outfits back result = (es : List Exchange)
       × AsksFirst step es (links_of outfits) (links_of back)
-      × ((a : Around) → Does (watching watched rows replicas) (With outfits a)
+      × ((a : Environment) → Does (watching watched rows replicas) (With outfits a)
       (With back (with_exchanges es a)) (read_in result))
       × IfOk result (λ start. KnowsItems watched es rows replicas start.items.0)
 
@@ -231,7 +231,7 @@ module _ {L D : Type 0} (link : L → Link) (step : L → Exchange → L → Typ
 
   none_heard : (watched : Bool) (rows : List LogRow) (replicas : List (Option Publication))
       (outfits : List (Outfit L D)) (result : Result (List Item) Stop)
-      → ((a : Around) → Does (watching watched rows replicas) a a result) → (a : Around)
+      → ((a : Environment) → Does (watching watched rows replicas) a a result) → (a : Environment)
       → Does (watching watched rows replicas) (With outfits a)
       (With outfits (with_exchanges [] a)) result
   none_heard watched rows replicas outfits result does a =
@@ -291,8 +291,8 @@ module _ {L D : Type 0} (link : L → Link) (step : L → Exchange → L → Typ
 
         -- the live rows were read with the first outfit
         reads_out : (es : List Exchange) (result : Result (List Item) Stop)
-            → ((b : Around) → Does Reading (First first first.links b)
-            (First first new.links (with_exchanges es b)) result) → (a : Around)
+            → ((b : Environment) → Does Reading (First first first.links b)
+            (First first new.links (with_exchanges es b)) result) → (a : Environment)
             → Does (watching watched rows replicas) (With outfits a) (With back (with_exchanges es a))
             result
         reads_out es result d a =

@@ -27,7 +27,7 @@ use Rattle.kr_store.specs.declared.rows.LogRow.{LogRow}
 use Rattle.kr_workers.specs.Budgets.{all_reloads, reloads_of}
 use Rattle.kr_workers.specs.Histories.{IsOneHistory}
 use Rattle.kr_workers.specs.declared.worker.Worker.{Worker}
-use Rattle.kr_cmd_steps.specs.Around.{Around, IsHome, with_lent}
+use Rattle.kr_cmd_steps.specs.Environment.{Environment, IsHome, with_lent}
 use Rattle.kr_cmd_fleet.specs.FleetFiles.{all_rows}
 use Rattle.kr_cmd_fleet.specs.Fleets.{AreEquipped, Begun, HasRows, IsEquipped, LeavesRest, Replicas, RunsFleet, opening_of, launching, parts_of}
 use Rattle.kr_cmd_steps.specs.Steps.{Steps}
@@ -51,7 +51,7 @@ use Rattle.kr_cmd_steps.specs.inner.ProgramNames.{names_in}
 use Rattle.kr_cmd_steps.specs.inner.Phases.{Does}
 use Rattle.kr_cmd_steps.specs.inner.Tapes.{stored_of}
 use Rattle.kr_cmd_fleet.specs.inner.Workings.{StaysIdle, TakesOutfits}
-use Rattle.kr_cmd_steps.proofs.Goes.{files_same, home_trans}
+use Rattle.kr_cmd_steps.proofs.RunTo.{files_same, home_trans}
 use Rattle.kr_cmd_steps.proofs.Lending.{by_key, home_behind, home_same}
 use Rattle.kr_cmd_fleet.proofs.Outfits.{IsBeside, LinksOf, later_named, later_refl, later_trans, names_differ, outfits_equipped, outfits_home, outfits_keep, told_apart, later_many}
 use Rattle.kr_cmd_fleet.proofs.Publishings.{published_settings}
@@ -120,9 +120,9 @@ has_rows begun o rows store same whole kept = held_rows begun rows store.format 
     (subst (λ r. IsFile store.format r kept.holds.0) kept.rows_are kept.holds.1)
     (λ t. tore o.torn whole (kept.torn t)) kept.holds.4
 
-module _ (name : List ℕ) (a : Around) where
+module _ (name : List ℕ) (a : Environment) where
   -- with the store's tape, of which this is told
-  abbrev Over : Option (List ℕ) → ℕ → Around
+  abbrev Over : Option (List ℕ) → ℕ → Environment
   Over told n = with_lent_tape name told n a
 
   pub over_home : (told now : Option (List ℕ)) {n m : ℕ} → n ≤ m
@@ -165,7 +165,7 @@ DiceOf = Objects ℕ (Option (List ℕ))
 module _ {T L D : Type 0} (link : L → Link) (left : D → Option (List ℕ)) (count : D → ℕ) where
   pub workers_equipped : (programs : List Program) → IsDistinct bytes_eq (names_in programs)
       → (workers : List (Worker T L D)) (outfits : List (Outfit L D))
-      → outfits ≡ outfits_of workers → AreNamed link (names_in programs) outfits → (x : Around)
+      → outfits ≡ outfits_of workers → AreNamed link (names_in programs) outfits → (x : Environment)
       → AreEquipped link left count programs (with_outfits link left count 0 outfits x) workers
   workers_equipped programs distinct workers outfits are named x seat d below =
       let long : length (outfits_of workers) ≡ length workers =
@@ -180,7 +180,7 @@ module _ {T L D : Type 0} (link : L → Link) (left : D → Option (List ℕ)) (
 
 -- what is told of the workers' links and random sources, whatever tapes tell
 module _ {L D : Type 0} (link : L → Link) (left : D → Option (List ℕ)) (count : D → ℕ) where
-  same_links : (seat : ℕ) (outfits : List (Outfit L D)) (x y : Around)
+  same_links : (seat : ℕ) (outfits : List (Outfit L D)) (x y : Environment)
       → x.world.links ≡ y.world.links
       → (with_outfits link left count seat outfits x).world.links
       ≡ (with_outfits link left count seat outfits y).world.links
@@ -188,7 +188,7 @@ module _ {L D : Type 0} (link : L → Link) (left : D → Option (List ℕ)) (co
   same_links seat (outfit ∷ outfits) x y e =
       ap (lent_links link seat outfit.links) (same_links (seat + 1) outfits x y e)
 
-  same_dice : (seat : ℕ) (outfits : List (Outfit L D)) (x y : Around)
+  same_dice : (seat : ℕ) (outfits : List (Outfit L D)) (x y : Environment)
       → x.world.dice ≡ y.world.dice
       → (with_outfits link left count seat outfits x).world.dice
       ≡ (with_outfits link left count seat outfits y).world.dice
@@ -198,7 +198,7 @@ module _ {L D : Type 0} (link : L → Link) (left : D → Option (List ℕ)) (co
       (same_dice (seat + 1) outfits x y e)
 
   -- nor what is told of the seats behind theirs
-  dice_beyond : (seat : ℕ) (outfits : List (Outfit L D)) (x : Around) (other : ℕ)
+  dice_beyond : (seat : ℕ) (outfits : List (Outfit L D)) (x : Environment) (other : ℕ)
       → seat + length outfits ≤ other
       → (with_outfits link left count seat outfits x).world.dice.told other
       ≡ x.world.dice.told other
@@ -209,7 +209,7 @@ module _ {L D : Type 0} (link : L → Link) (left : D → Option (List ℕ)) (co
       (λ e. absurd (omega (arith, past, e))) (λ n. refl)
       ∙ dice_beyond (seat + 1) outfits x other (omega (arith, past))
 
-  links_beyond : (seat : ℕ) (outfits : List (Outfit L D)) (x : Around) (other : ℕ)
+  links_beyond : (seat : ℕ) (outfits : List (Outfit L D)) (x : Environment) (other : ℕ)
       (plugin : List ℕ) → seat + length outfits ≤ other
       → (with_outfits link left count seat outfits x).world.links.told (other, plugin)
       ≡ x.world.links.told (other, plugin)
@@ -253,16 +253,16 @@ crew_idle link step left count plan budgets outs o start workers are kept back (
 module _ {L D : Type 0} (link : L → Link) (step : L → Exchange → L → Type 0)
     (left : D → Option (List ℕ))
     (count : D → ℕ) (watched : Bool) (plan : LoadedFleet) (whole : IsWholePlan (plan_of plan))
-    (budgets : List ℕ) (name : List ℕ) (a : Around) (store : Kept) where
+    (budgets : List ℕ) (name : List ℕ) (a : Environment) (store : Kept) where
   -- these outfits and the store's tape stand as if they were at home
-  abbrev pub With : List (Outfit L D) → Kept → Around
+  abbrev pub With : List (Outfit L D) → Kept → Environment
   With outfits kept = with_outfits link left count 0 outfits
       (with_lent_tape name kept.told kept.count a)
 
   abbrev pub Next : Steps Begun
   Next = launching watched (plan_of plan) (stored_of store) budgets
 
-  module _ (olds outs : List (Outfit L D)) (first : Around) (replicas : Replicas)
+  module _ (olds outs : List (Outfit L D)) (first : Environment) (replicas : Replicas)
       (es : List Exchange) (start : WatchStart)
       (all_does : Does Next first (With outs store)
       (Ok (begun_with plan budgets store replicas start.items.0)))
@@ -278,14 +278,14 @@ module _ {L D : Type 0} (link : L → Link) (step : L → Exchange → L → Typ
     abbrev begun : Begun
     begun = begun_with plan budgets store replicas start.items.0
 
-    abbrev Mid : Around
+    abbrev Mid : Environment
     Mid = With outs store
 
-    abbrev Over_now : Kept → Around
+    abbrev Over_now : Kept → Environment
     Over_now kept = with_lent_tape name kept.told kept.count a
 
     -- what neither links nor a random source change is as without the outfits
-    beside : {A : Type 0} (part : Around → A) → IsBeside link left count part
+    beside : {A : Type 0} (part : Environment → A) → IsBeside link left count part
         → (outfits : List (Outfit L D)) (kept : Kept)
         → part (With outfits kept) ≡ part (Over_now kept)
     beside part same outfits kept =
@@ -328,7 +328,7 @@ module _ {L D : Type 0} (link : L → Link) (step : L → Exchange → L → Typ
             ∙ over_count name a kept.told kept.count
 
         -- what doesn't depend on the store's tape either is as before
-        stays : {A : Type 0} (part : Around → A) → IsBeside link left count part
+        stays : {A : Type 0} (part : Environment → A) → IsBeside link left count part
             → part (Over_now kept) ≡ part (Over_now store)
             → part (With back kept) ≡ part Mid
         stays part same over =

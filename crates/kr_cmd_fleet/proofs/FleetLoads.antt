@@ -21,16 +21,16 @@ use Rattle.kr_script.specs.declared.script.ScriptNo.{ScriptNo}
 use Rattle.kr_script.specs.declared.script.ScriptNo.TheVariants as no
 use Rattle.kr_workers.specs.declared.files.SettingsFile.{SettingsFile}
 use Rattle.kr_workers.specs.Files as workers
-use Rattle.kr_cmd_steps.specs.Around.{Around, Ends, Reaches, Stays, with_world}
+use Rattle.kr_cmd_steps.specs.Environment.{Environment, Ends, StepsEndAt, IsStateOf, with_world}
 use Rattle.kr_cmd_steps.specs.Phases.{configuration, with_memory}
 use Rattle.kr_cmd_fleet.specs.FleetFiles.{NamedRows, file_in, files_in, fleet_in, named_rows, file_entries, unless_read}
-use Rattle.kr_cmd_steps.specs.Steps.{Steps, Left, and_then, awaits, loading, with_asked}
+use Rattle.kr_cmd_steps.specs.Steps.{Steps, StepState, and_then, awaits, loading, with_asked}
 use Rattle.kr_cmd_messages.specs.declared.refusal.Refusal.{Refusal}
 use Rattle.kr_cmd_messages.specs.declared.refusal.Stop.{Stop}
 use Rattle.kr_cmd_messages.specs.declared.refusal.Stop.TheVariants.{Words, Refused, Fault, NoMemory}
 use Rattle.kr_cmd_fleet.specs.inner.Plans.{Covers, GoesThrough, IsFleetRead, IsRuled, ReadsBytes, ReadsFleet, fleet_in_result, named, script_stop}
 use Rattle.kr_cmd_steps.specs.inner.Phases.{AskedFor, Configures, Does}
-use Rattle.kr_cmd_steps.proofs.Goes.{asked_home, by_goes, by_point, configures, given, goes_on, reach, stays_noted, stops, unasked}
+use Rattle.kr_cmd_steps.proofs.RunTo.{asked_home, by_goes, by_point, configures, given, goes_on, reach, stays_noted, stops, unasked}
 use Rattle.kr_cmd_steps.proofs.Made.{remembers}
 use Rattle.kr_cmd_steps.proofs.Works.{lacks}
 
@@ -64,12 +64,12 @@ script_read old new name bytes (Err (Fault object count)) l m = absurd m
 script_read old new name bytes (Err NoMemory) l m = tt
 
 module _ {old new : Outside} (files : KeepsFiles old new) (objects : KeepsObjects old new)
-    (a : Around) (name : List ℕ) where
-  fleet_passes : {left : Left} (read : Result Fleet Refusal) → Stays left (with_world old a)
+    (a : Environment) (name : List ℕ) where
+  fleet_passes : {left : StepState} (read : Result Fleet Refusal) → IsStateOf left (with_world old a)
       → IsFleetRead old name read → new.asked ≡ with_call (File name) old.asked
-      → Reaches (fleet_in name) left (with_world new a) (by_point read)
+      → StepsEndAt (fleet_in name) left (with_world new a) (by_point read)
   fleet_passes {left} read s (file, agrees, is) made =
-      let now : Left = with_asked (File name) left in
+      let now : StepState = with_asked (File name) left in
       reach now (inr (inr (
         file,
         subst (λ t. Agrees (t name) file) s.file agrees,
@@ -77,13 +77,13 @@ module _ {old new : Outside} (files : KeepsFiles old new) (objects : KeepsObject
       )))
       (stays_noted files objects a (File name) s made)
 
-  fleet_not_loaded : {left : Left} → Stays left (with_world old a)
+  fleet_not_loaded : {left : StepState} → IsStateOf left (with_world old a)
       → new.asked ≡ with_call (File name) old.asked
-      → Reaches (fleet_in name) left (with_world new a) (awaits (loading name))
+      → StepsEndAt (fleet_in name) left (with_world new a) (awaits (loading name))
   fleet_not_loaded {left} s made = reach (with_asked (File name) left) (inr (inl (refl, refl)))
       (stays_noted files objects a (File name) s made)
 
-  fleet_at : {left : Left} (result : Result Script Stop) → Stays left (with_world old a)
+  fleet_at : {left : StepState} (result : Result Script Stop) → IsStateOf left (with_world old a)
       → ReadsFleet old new name result → AskedFor old.asked new.asked (File name) result
       → Ends (fleet_in name) left (with_world old a) (with_world new a)
       (fleet_in_result result)
@@ -338,7 +338,7 @@ module _ (files : List NamedRows) (name : List ℕ) where
         )
 
     -- the command ended at it
-    ends_at : (others : List NamedRows) (stop : Stop) → ((a : Around) (names : List (List ℕ))
+    ends_at : (others : List NamedRows) (stop : Stop) → ((a : Environment) (names : List (List ℕ))
         → Does (and_then (configuration name)
         (λ rows. with_memory (files_in (files ++ (name, rows) ∷ []) names))) (with_world old a)
         (with_world new a) (Err stop)) → GoesThrough files others (name ∷ []) old new (Err stop)
@@ -388,7 +388,7 @@ through_from first files names old new result none all =
     subst (λ l. GoesThrough (named l) files names old new result) none all
 
 pub all_through : (files : List NamedRows) (names : List (List ℕ)) {old new : Outside}
-    → GoesThrough [] files names old new (Ok tt) → (a : Around)
+    → GoesThrough [] files names old new (Ok tt) → (a : Environment)
     → Does (files_in [] names) (with_world old a) (with_world new a) (Ok files)
 all_through files names {old} {new} all a =
     subst (λ l. Does (files_in [] l) (with_world old a) (with_world new a) (Ok files))
@@ -401,7 +401,7 @@ pub all_read : (files : List NamedRows) (names : List (List ℕ)) {old new : Out
 all_read files names all = all.1.read
 
 pub not_through : (files : List NamedRows) (names : List (List ℕ)) {old new : Outside}
-    (stop : Stop) → GoesThrough [] files names old new (Err stop) → (a : Around)
+    (stop : Stop) → GoesThrough [] files names old new (Err stop) → (a : Environment)
     → Does (files_in [] names) (with_world old a) (with_world new a) (Err stop)
 not_through files names {old} {new} stop none a =
     subst (λ l. Does (files_in [] l) (with_world old a) (with_world new a) (Err stop))

@@ -4,7 +4,7 @@ use Rattle.std.specs.Option.{option_map}
 use Rattle.kr_kms.specs.Calls.{Link}
 use Rattle.kr_kms.specs.Exchanges.{Exchange}
 use Rattle.kr_kms.specs.Outside.{Outside, same_name}
-use Rattle.kr_cmd_steps.specs.Around.{Around, with_lent, with_world}
+use Rattle.kr_cmd_steps.specs.Environment.{Environment, with_lent, with_world}
 use Rattle.kr_cmd_fleet.specs.FleetFiles.{FleetPlan}
 use Rattle.kr_cmd_fleet.specs.Fleets.{Begun, equipping}
 use Rattle.kr_cmd_steps.specs.Steps.{Steps, and_then}
@@ -17,29 +17,29 @@ use Rattle.kr_cmd_steps.specs.inner.Lent.{Tapes, with_lent_tape, with_tapes}
 use Rattle.kr_cmd_fleet.specs.inner.Outfits.{with_outfits}
 use Rattle.kr_cmd_steps.specs.inner.Phases.{Does}
 use Rattle.kr_cmd_fleet.proofs.FleetRuns.{before}
-use Rattle.kr_cmd_steps.proofs.Goes.{nothing, stops}
+use Rattle.kr_cmd_steps.proofs.RunTo.{nothing, stops}
 use Rattle.kr_cmd_fleet.proofs.Outfitting.{equipped_then}
 
 module _ (T : Type 0) {L D : Type 0} (link : L → Link)
     (step : L → Exchange → L → Type 0)
     (left : D → Option (List ℕ)) (count : D → ℕ) (Begins : Beginning T L D) (watched : Bool)
-    (name : List ℕ) (plan : FleetPlan) (a : Around) (programs : List Program) (seats : ℕ)
+    (name : List ℕ) (plan : FleetPlan) (a : Environment) (programs : List Program) (seats : ℕ)
     (next : Steps Begun)
     (old mid new : Outside) (opened : List (Outfit L D)) where
   -- with the store's tape out
-  abbrev With : Around → Outside → (told : Option (List ℕ)) → ℕ → Around
+  abbrev With : Environment → Outside → (told : Option (List ℕ)) → ℕ → Environment
   With around world told n = with_lent_tape name told n (with_world world around)
 
-  abbrev Over : Outside → (told : Option (List ℕ)) → ℕ → Around
+  abbrev Over : Outside → (told : Option (List ℕ)) → ℕ → Environment
   Over world told n = With a world told n
 
   abbrev pub Opened : Result (Unit {0}) Stop → Type 0
-  Opened result = (tapes : Tapes) (b : Around) → Does (equipping programs 0 seats nothing)
+  Opened result = (tapes : Tapes) (b : Environment) → Does (equipping programs 0 seats nothing)
       (with_world (with_tapes tapes old) b)
       (with_outfits link left count 0 opened (with_world (with_tapes tapes mid) b)) result
 
   abbrev pub Closed : List (Outfit L D) → Type 0
-  Closed outfits = (tapes : Tapes) (b : Around)
+  Closed outfits = (tapes : Tapes) (b : Environment)
       → with_outfits link left count 0 outfits (with_world (with_tapes tapes mid) b)
       ≡ with_world (with_tapes tapes new) b
 
@@ -54,7 +54,7 @@ module _ (T : Type 0) {L D : Type 0} (link : L → Link)
         result) (sym lent)
         (opens (with_lent same_name name (option_map Some told) n old.tapes) a)
 
-    closed_over : (around : Around) (outfits : List (Outfit L D)) (told : Option (List ℕ)) (n : ℕ)
+    closed_over : (around : Environment) (outfits : List (Outfit L D)) (told : Option (List ℕ)) (n : ℕ)
         → Closed outfits
         → with_outfits link left count 0 outfits (With around mid told n) ≡ With around new told n
     closed_over around outfits told n back =
@@ -63,7 +63,7 @@ module _ (T : Type 0) {L D : Type 0} (link : L → Link)
         around) (sym still)
 
     -- they were borrowed, and the fleet ran by what follows
-    pub runs_equipped : (around : Around) (told back : Option (List ℕ)) (n last : ℕ)
+    pub runs_equipped : (around : Environment) (told back : Option (List ℕ)) (n last : ℕ)
         (closed : List (Outfit L D)) → Opened (Ok tt) → Closed closed
         → (result : Result Record Stop)
         → RunsBy T link step left count Begins watched next name plan

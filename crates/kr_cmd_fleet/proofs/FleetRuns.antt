@@ -21,7 +21,7 @@ use Rattle.kr_workers.specs.declared.budget.BudgetNo.TheVariants as budget
 use Rattle.kr_workers.specs.declared.ending.Ending.{Ending}
 use Rattle.kr_workers.specs.declared.worker.Worker as fleet_worker
 use Rattle.kr_workers.proofs.Summing.{parts_fit}
-use Rattle.kr_cmd_steps.specs.Around.{Around, IsHome, left_of}
+use Rattle.kr_cmd_steps.specs.Environment.{Environment, IsHome, step_state}
 use Rattle.kr_cmd_messages.specs.FleetAsked.{AsksFleet}
 use Rattle.kr_cmd_fleet.specs.FleetFiles.{FleetPlan}
 use Rattle.kr_cmd_fleet.specs.Fleets.{Begun, DidFleet, RunsFleet, WritesFleet, budgeting, parts_of}
@@ -39,12 +39,12 @@ use Rattle.kr_cmd_steps.specs.inner.Lent.{with_lent_tape}
 use Rattle.kr_cmd_steps.specs.inner.Phases.{Does}
 use Rattle.kr_cmd_fleet.specs.StartExchanges.{WereAsked}
 use Rattle.kr_cmd_fleet.proofs.CallEnds.{IsPlanned, Leaves, Stopped, by_plan, from_plan, leaves_so}
-use Rattle.kr_cmd_steps.proofs.Goes.{goes_on, home_refl, home_trans, reach, stays_refl, stops}
+use Rattle.kr_cmd_steps.proofs.RunTo.{goes_on, home_refl, home_trans, reach, stays_refl, stops}
 
 -- the call stopped
 pub fleet_stopped : {T L D : Type 0} {link : L → Link} {step : L → Exchange → L → Type 0}
     {lent took : ℕ → L → Type 0} {left : D → Option (List ℕ)} {count : D → ℕ}
-    {words : FleetWords} {old new : Around} {output : Receipt} {stop : Stop}
+    {words : FleetWords} {old new : Environment} {output : Receipt} {stop : Stop}
     → Stopped T link step lent took left count words false old new output stop
     → DidFleet T link step lent took left count words old new output (Err stop)
 fleet_stopped s = record {
@@ -58,7 +58,7 @@ fleet_stopped s = record {
 
 module _ {T L D : Type 0} {link : L → Link} {step : L → Exchange → L → Type 0}
     {lent took : ℕ → L → Type 0} {left : D → Option (List ℕ)} {count : D → ℕ}
-    {words : FleetWords} {plan : FleetPlan} {old now new : Around} {file store : List ℕ}
+    {words : FleetWords} {plan : FleetPlan} {old now new : Environment} {file store : List ℕ}
     {exchanges : List Exchange} (made : IsPlanned words plan old now file store)
     (heard : new.heard ≡ hearing exchanges old.heard)
     (asked : WereAsked link lent took step exchanges old.world new.world) where
@@ -90,7 +90,7 @@ module _ {T L D : Type 0} {link : L → Link} {step : L → Exchange → L → T
           record {
             begun = l.begun;
             mid = l.mid;
-            reaches = all.ends (left_of old) (stays_refl old);
+            reaches = all.ends (step_state old) (stays_refl old);
             since = all.home;
             exchanges = exchanges;
             heard = l.begins.0;
@@ -113,7 +113,7 @@ module _ {T L D : Type 0} {link : L → Link} {step : L → Exchange → L → T
 abbrev pub leaves_by : {T L D : Type 0} {link : L → Link} {step : L → Exchange → L → Type 0}
     {left : D → Option (List ℕ)} {count : D → ℕ} {Begins Others : Beginning T L D}
     {settled behind watched : Bool} {steps others : Steps Begun} {store : List ℕ}
-    {plan : FleetPlan} {old new from to : Around} {made : Record}
+    {plan : FleetPlan} {old new from to : Environment} {made : Record}
     (l : LeavesRecord T link step left count Begins settled watched steps store plan old new made)
     → Does others from l.mid (Ok l.begun)
     → (runs : RunsFleet link step left count store l.begun (settled_if behind store l.mid) to
@@ -143,13 +143,13 @@ module _ (T : Type 0) {L D : Type 0} (link : L → Link)
     (step : L → Exchange → L → Type 0)
     (left : D → Option (List ℕ)) (count : D → ℕ) (Begins : Beginning T L D) (watched : Bool)
     (store : List ℕ) (plan : FleetPlan) where
-  abbrev pub Runs : Steps Begun → (old new : Around) → Result Record Stop → Type 0
+  abbrev pub Runs : Steps Begun → (old new : Environment) → Result Record Stop → Type 0
   Runs steps old new result =
       RunsBy T link step left count Begins watched steps store plan old new result
 
   module _ {A : Type 0} (first : Steps A) (others : A → Steps Begun) where
     -- the first steps gave something, and the fleet ran by the others
-    unfoldable pub before : (x : A) (new : Around) {old mid : Around} → Does first old mid (Ok x)
+    unfoldable pub before : (x : A) (new : Environment) {old mid : Environment} → Does first old mid (Ok x)
         → (result : Result Record Stop) → Runs (others x) mid new result
         → Runs (and_then first others) old new result
     before x new d (Ok made) l = leaves_by l (goes_on first others x d l.does) l.runs l.begins
@@ -164,13 +164,13 @@ module _ (T : Type 0) {L D : Type 0} (link : L → Link)
       home = home_trans d.home l.home;
     })
 
-    pub ends_before : {old new : Around} (stop : Stop) → Does first old new (Err stop)
+    pub ends_before : {old new : Environment} (stop : Stop) → Does first old new (Err stop)
         → Runs (and_then first others) old new (Err stop)
     ends_before stop d = inl (stops first others stop d)
 
-  module _ (steps : Steps Begun) (a : Around) where
+  module _ (steps : Steps Begun) (a : Environment) where
     -- the store's tape, closed, tells what the store told
-    pub runs_closed : (old : Around) {told back : Option (List ℕ)} {n last : ℕ}
+    pub runs_closed : (old : Environment) {told back : Option (List ℕ)} {n last : ℕ}
         (result : Result Record Stop) → back ≡ told → last ≡ n
         → Runs steps old (with_lent_tape store told n a) result
         → Runs steps old (with_lent_tape store back last a) result
@@ -185,7 +185,7 @@ pub runs_so : (T : Type 0) {L D : Type 0} (link : L → Link)
     (so : (heard : Option (List Exchange)) (asked : List Exchange)
     (workers ended : List (fleet_worker.Worker T L D)) → Begins heard asked workers ended
     → Others heard asked workers ended) (watched : Bool)
-    (steps : Steps Begun) (store : List ℕ) (plan : FleetPlan) (old new : Around)
+    (steps : Steps Begun) (store : List ℕ) (plan : FleetPlan) (old new : Environment)
     (result : Result Record Stop)
     → RunsBy T link step left count Begins watched steps store plan old new result
     → RunsBy T link step left count Others watched steps store plan old new result
@@ -235,14 +235,14 @@ module _ (rows : List LogRow) (parts : List Part) (live : ℕ) (is : IsLiveCount
   )
 
   pub budgeted : (budgets : List ℕ) → budgets ≡ Needed → sum budgets ≤ journal_limit
-      → (a : Around) → Does (budgeting rows (parts_again parts)) a a (Ok budgets)
+      → (a : Environment) → Does (budgeting rows (parts_again parts)) a a (Ok budgets)
   budgeted budgets e few a = record {
     home = home_refl a;
     ends = λ l s. reach l (inr (Ok budgets, (are_again budgets e, few), (refl, refl))) s;
   }
 
   pub not_budgeted : (why : BudgetNo) → (why ≡ budget.TooMany → journal_limit < sum Needed)
-      → (a : Around) → Does (budgeting rows (parts_again parts)) a a (Err (budget_stop why))
+      → (a : Environment) → Does (budgeting rows (parts_again parts)) a a (Err (budget_stop why))
   not_budgeted budget.TooMany many a = record {
     home = home_refl a;
     ends = λ l s. reach l

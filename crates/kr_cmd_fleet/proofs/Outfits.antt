@@ -21,7 +21,7 @@ use Rattle.kr_provider.specs.PluginOrder.{plugin_order}
 use Rattle.kr_provider.proofs.NameOrder.{comes_earlier, not_itself, to_false}
 use Rattle.kr_provider.proofs.PluginOrder.{order_ascends}
 use Rattle.kr_provider.proofs.AskedLists.{asked_none, asked_then, names_stay}
-use Rattle.kr_cmd_steps.specs.Around.{Around, AreHome, IsHome, with_exchanges, with_lent}
+use Rattle.kr_cmd_steps.specs.Environment.{Environment, AreHome, IsHome, with_exchanges, with_lent}
 use Rattle.kr_cmd_fleet.specs.Fleets.{IsEquipped}
 use Rattle.kr_cmd_fleet.specs.declared.outfit.Outfit.{Outfit}
 use Rattle.kr_cmd_steps.specs.declared.programs.Program.{Program}
@@ -145,14 +145,14 @@ module _ {L D : Type 0} (link : L → Link) (left : D → Option (List ℕ)) (co
   -- ---- what is around them
 
   -- neither links nor a random source change this part of what is around
-  abbrev pub IsBeside : {A : Type 0} → (Around → A) → Type 0
-  IsBeside part = (seat : ℕ) (outfit : Outfit L D) (b : Around)
+  abbrev pub IsBeside : {A : Type 0} → (Environment → A) → Type 0
+  IsBeside part = (seat : ℕ) (outfit : Outfit L D) (b : Environment)
       → part (with_lent_links link seat outfit.links
       (with_lent_dice seat (left outfit.dice) (count outfit.dice) b)) ≡ part b
 
   -- nor do the workers' outfits
-  pub outfits_keep : {A : Type 0} (part : Around → A) → IsBeside part → (seat : ℕ)
-      (outfits : List (Outfit L D)) (a : Around)
+  pub outfits_keep : {A : Type 0} (part : Environment → A) → IsBeside part → (seat : ℕ)
+      (outfits : List (Outfit L D)) (a : Environment)
       → part (with_outfits link left count seat outfits a) ≡ part a
   outfits_keep part same seat [] a = refl
   outfits_keep part same seat (outfit ∷ outfits) a =
@@ -160,7 +160,7 @@ module _ {L D : Type 0} (link : L → Link) (left : D → Option (List ℕ)) (co
       ∙ outfits_keep part same (seat + 1) outfits a
 
   pub outfits_exchanges : (es : List Exchange) (seat : ℕ) (outfits : List (Outfit L D))
-      (a : Around)
+      (a : Environment)
       → with_outfits link left count seat outfits (with_exchanges es a)
       ≡ with_exchanges es (with_outfits link left count seat outfits a)
   outfits_exchanges es seat [] a = refl
@@ -171,7 +171,7 @@ module _ {L D : Type 0} (link : L → Link) (left : D → Option (List ℕ)) (co
 
   -- where the workers' outfits are out before and after, all else is at home
   pub outfits_home : (seat : ℕ) (olds news : List (Outfit L D)) → AreLater link count olds news
-      → {a b : Around} → IsHome a b → IsHome (with_outfits link left count seat olds a)
+      → {a b : Environment} → IsHome a b → IsHome (with_outfits link left count seat olds a)
       (with_outfits link left count seat news b)
   outfits_home seat [] [] p h = h
   outfits_home seat (old ∷ olds) (new ∷ news) p h =
@@ -187,7 +187,7 @@ module _ {L D : Type 0} (link : L → Link) (left : D → Option (List ℕ)) (co
 
   -- ---- what each worker has
 
-  module _ (a : Around) where
+  module _ (a : Environment) where
     -- a value that each outfit gives, and goes by the seat, is that of the seat's outfit
     of_seat : {V : Type 0} (value : ℕ → List (Outfit L D) → ℕ → V) (of : Outfit L D → V)
         → ((seat : ℕ) (first : Outfit L D) (more : List (Outfit L D)) (key : ℕ)
@@ -245,7 +245,7 @@ module _ {L D : Type 0} (link : L → Link) (left : D → Option (List ℕ)) (co
         )
 
   -- each worker has its seat's random source and links
-  pub outfits_equipped : (programs : List Program) (outfits : List (Outfit L D)) (a : Around)
+  pub outfits_equipped : (programs : List Program) (outfits : List (Outfit L D)) (a : Environment)
       → IsDistinct bytes_eq (names_in programs) → AreNamed link (names_in programs) outfits
       → (at : ℕ) (o : Outfit L D) → at < length outfits
       → IsEquipped link left count programs at (with_outfits link left count 0 outfits a)

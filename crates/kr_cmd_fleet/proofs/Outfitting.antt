@@ -13,7 +13,7 @@ use Rattle.kr_kms.specs.declared.world.WorldCall.TheVariants as calls
 use Rattle.kr_kms.proofs.Lent.{links_decide, seats_decide}
 use Rattle.kr_provider.specs.Names.{names_of}
 use Rattle.kr_provider.specs.PluginOrder.{plugin_order}
-use Rattle.kr_cmd_steps.specs.Around.{Around, with_lent, with_world}
+use Rattle.kr_cmd_steps.specs.Environment.{Environment, with_lent, with_world}
 use Rattle.kr_cmd_fleet.specs.Fleets.{equipping}
 use Rattle.kr_cmd_steps.specs.Plugins.{borrow_links_of}
 use Rattle.kr_cmd_steps.specs.Steps.{Steps, and_then, borrow_dice, borrow_link, linking, with_asked}
@@ -27,7 +27,7 @@ use Rattle.kr_cmd_fleet.specs.inner.Outfits.{AreNamed, AreOut, IsOut, KeepsOther
 use Rattle.kr_cmd_steps.specs.inner.ProgramNames.{names_in}
 use Rattle.kr_cmd_steps.specs.inner.Phases.{AskedUnless, DiceLoan, Does, LendsNothing, LinkLoan, LinkReturn}
 use Rattle.kr_cmd_steps.proofs.Apart.{files_apart, link_apart, link_back_apart, loan_apart, objects_apart}
-use Rattle.kr_cmd_steps.proofs.Goes.{IsSeen, borrowed, dice_seen, given, goes_on, lent_dice, not_linked, not_opened, nothing, reach, seen_home, seen_stays, stops}
+use Rattle.kr_cmd_steps.proofs.RunTo.{IsSeen, borrowed, dice_seen, given, goes_on, lent_dice, not_linked, not_opened, nothing, reach, seen_home, seen_stays, stops}
 use Rattle.kr_cmd_steps.proofs.Lending.{AreSeen, by_key, no_more, seen_behind}
 use Rattle.kr_cmd_steps.proofs.Linked.{is_new, links_then, loan_within, one_linked, return_within}
 use Rattle.kr_cmd_steps.proofs.Links.{lent_link, link_back, links_seen, seen_links}
@@ -73,7 +73,7 @@ module _ {L D : Type 0} (link : L → Link) (left : D → Option (List ℕ)) (co
     links = links_behind seat outfits world.links;
   }
 
-  pub behind_is : (seat : ℕ) (outfits : List (Outfit L D)) (world : Outside) (a : Around)
+  pub behind_is : (seat : ℕ) (outfits : List (Outfit L D)) (world : Outside) (a : Environment)
       → with_outfits link left count seat outfits (with_world world a)
       ≡ with_world (world_behind seat outfits world) a
   behind_is seat [] world a = refl
@@ -94,7 +94,7 @@ module _ {L D : Type 0} (link : L → Link) (left : D → Option (List ℕ)) (co
       seen_links link seat outfit.links (seen_links_behind (seat + 1) outfits s)
 
   -- one more is the last
-  pub with_last : (seat at : ℕ) (front : List (Outfit L D)) (last : Outfit L D) (a : Around)
+  pub with_last : (seat at : ℕ) (front : List (Outfit L D)) (last : Outfit L D) (a : Environment)
       → at ≡ seat + length front → with_outfits link left count seat (front ++ last ∷ []) a
       ≡ with_outfits link left count seat front (with_outfits link left count at (last ∷ []) a)
   with_last seat at [] last a e =
@@ -129,7 +129,7 @@ module _ {L D : Type 0} (link : L → Link) (left : D → Option (List ℕ)) (co
     }
 
     does_within : {A : Type 0} {step : Steps A} {result : Result A Stop} (old new : Outside)
-        (a : Around) → Does step (with_world (Before old) a) (with_world (Before new) a) result
+        (a : Environment) → Does step (with_world (Before old) a) (with_world (Before new) a) result
         → Does step (with_outfits link left count 0 front (with_world old a))
         (with_outfits link left count 0 front (with_world new a)) result
     does_within {step = step} {result} old new a d =
@@ -141,13 +141,13 @@ module _ {L D : Type 0} (link : L → Link) (left : D → Option (List ℕ)) (co
     -- ---- a random source
 
     pub dice_borrowed : (seat : ℕ) {old out : Outside} (given : Option (List ℕ)) (n : ℕ)
-        (a : Around) → DiceLoan seat old out given n
+        (a : Environment) → DiceLoan seat old out given n
         → Does (borrow_dice seat nothing) (with_outfits link left count 0 front (with_world old a))
         (with_outfits link left count 0 front (with_world (dice_seen seat given n out) a)) (Ok tt)
     dice_borrowed seat {old} {out} given n a loan = does_within old (dice_seen seat given n out) a
         (borrowed (seen_within (lent_dice seat loan)) a (λ l. inr (inr (refl, refl))))
 
-    pub dice_refused : (seat : ℕ) {A : Type 0} {next : Steps A} {old new : Outside} (a : Around)
+    pub dice_refused : (seat : ℕ) {A : Type 0} {next : Steps A} {old new : Outside} (a : Environment)
         → KeepsFiles old new → KeepsObjects old new → (stop : Stop)
         → LendsNothing old.faults.dice new.faults.dice (file_faults new) stop
         → AskedUnless old.asked new.asked (calls.RandomSource seat) stop
@@ -160,7 +160,7 @@ module _ {L D : Type 0} (link : L → Link) (left : D → Option (List ℕ)) (co
     -- ---- a link of it
 
     module _ (seat : ℕ) {plugin program : List ℕ} (links : List L) where
-      pub link_borrowed : (it : L) {old out : Outside} (a : Around)
+      pub link_borrowed : (it : L) {old out : Outside} (a : Environment)
           → LinkLoan seat plugin program old out (link it)
           → Does (borrow_link seat plugin program nothing)
           (with_outfits link left count 0 front (with_world (links_seen link seat links old) a))
@@ -172,7 +172,7 @@ module _ {L D : Type 0} (link : L → Link) (left : D → Option (List ℕ)) (co
           (borrowed (seen_within (lent_link link seat links it loan)) a
           (λ l. inr (inr (refl, refl))))
 
-      pub link_refused : {A : Type 0} {next : Steps A} {old new : Outside} (a : Around)
+      pub link_refused : {A : Type 0} {next : Steps A} {old new : Outside} (a : Environment)
           → KeepsFiles old new → KeepsObjects old new → (stop : Stop)
           → LendsNothing old.faults.links new.faults.links (file_faults new) stop
           → AskedUnless old.asked new.asked (calls.Link seat plugin program) stop
@@ -193,7 +193,7 @@ module _ {L D : Type 0} (link : L → Link) (left : D → Option (List ℕ)) (co
           a seat plugin program stop why asked)
 
       -- it was handed out, and came back for want of memory
-      pub link_lacked : {A : Type 0} {next : Steps A} (it : L) {old out back : Outside} (a : Around)
+      pub link_lacked : {A : Type 0} {next : Steps A} (it : L) {old out back : Outside} (a : Environment)
           → LinkLoan seat plugin program old out (link it) → LinkReturn seat out back (link it)
           → Does (borrow_link seat plugin program next)
           (with_outfits link left count 0 front (with_world (links_seen link seat links old) a))
@@ -206,7 +206,7 @@ module _ {L D : Type 0} (link : L → Link) (left : D → Option (List ℕ)) (co
           does_within (links_seen link seat links old) (links_seen link seat links back) a
           (awaited (seen_within seen) a)
         where
-          awaited : {x y : Outside} → IsSeen (calls.Link seat plugin program) x y → (b : Around)
+          awaited : {x y : Outside} → IsSeen (calls.Link seat plugin program) x y → (b : Environment)
               → Does (borrow_link seat plugin program next) (with_world x b) (with_world y b)
               (Err NoMemory)
           awaited seen b = record {
@@ -317,14 +317,14 @@ names_end link (first ∷ links) last = ap (λ l. (link first).name ∷ l) (name
 module _ {L D : Type 0} (link : L → Link) (left : D → Option (List ℕ)) (count : D → ℕ)
     (seat : ℕ) (programs : List Program) (first : Outside) where
   -- what is around while these links are out, and a random source
-  abbrev Here : D → List (Outfit L D) → Tapes → Around → List L → Outside → Around
+  abbrev Here : D → List (Outfit L D) → Tapes → Environment → List L → Outside → Environment
   Here dice front tapes a links now = with_outfits link left count 0 front
       (with_outfits link left count seat (record { links = links; dice = dice } ∷ [])
       (with_world (with_tapes tapes now) a))
 
   -- so many of the links were borrowed: what the other steps do completes all of them
   pub record IsLinking (at : ℕ) (now : Outside) (links : List L) : Type 0 where
-    pub far : (dice : D) (front : List (Outfit L D)) (tapes : Tapes) (a end : Around)
+    pub far : (dice : D) (front : List (Outfit L D)) (tapes : Tapes) (a end : Environment)
         (result : Result (Unit {0}) Stop)
         → Does (borrow_links_of seat (drop at programs) nothing)
         (Here dice front tapes a links now) end result
@@ -380,7 +380,7 @@ module _ {L D : Type 0} (link : L → Link) (left : D → Option (List ℕ)) (co
         drop-cons programs at turn.program turn.less
         ∙ (λ i. sym turn.is i ∷ drop (one i) programs)
 
-    by_next : {old end : Around} {result : Result (Unit {0}) Stop}
+    by_next : {old end : Environment} {result : Result (Unit {0}) Stop}
         → Does (borrow_link seat plugin file
         (borrow_links_of seat (drop (at + 1) programs) nothing)) old end result
         → Does (borrow_links_of seat (drop at programs) nothing) old end result
@@ -540,7 +540,7 @@ module _ {L D : Type 0} (link : L → Link) (left : D → Option (List ℕ)) (co
       why asked
 
   pub outfit_back : (seat : ℕ) (outfit : Outfit L D) {old new : Outside}
-      → OutfitReturn link left count seat old new outfit → (tapes : Tapes) (a : Around)
+      → OutfitReturn link left count seat old new outfit → (tapes : Tapes) (a : Environment)
       → with_outfits link left count seat (outfit ∷ []) (with_world (with_tapes tapes old) a)
       ≡ with_world (with_tapes tapes new) a
   outfit_back seat outfit h tapes a = λ i. record a {
@@ -572,7 +572,7 @@ module _ {L D : Type 0} (link : L → Link) (left : D → Option (List ℕ)) (co
   module _ (programs : List Program) (seats : ℕ) (first : Outside) where
     -- so many outfits were borrowed: what the other steps do completes all of them
     pub record IsOutfitting (at : ℕ) (now : Outside) (outfits : List (Outfit L D)) : Type 0 where
-      pub far : (tapes : Tapes) (a end : Around) (result : Result (Unit {0}) Stop)
+      pub far : (tapes : Tapes) (a end : Environment) (result : Result (Unit {0}) Stop)
           → Does (equipping programs at (seats - at) nothing)
           (with_outfits link left count 0 outfits (with_world (with_tapes tapes now) a)) end
           result
@@ -598,7 +598,7 @@ module _ {L D : Type 0} (link : L → Link) (left : D → Option (List ℕ)) (co
 
     module _ (at : ℕ) (now : Outside) (outfits : List (Outfit L D))
         (so : IsOutfitting at now outfits) where
-      pub all_outfits : seats ≤ at → (tapes : Tapes) (a : Around)
+      pub all_outfits : seats ≤ at → (tapes : Tapes) (a : Environment)
           → Does (equipping programs 0 seats nothing) (with_world (with_tapes tapes first) a)
           (with_outfits link left count 0 outfits (with_world (with_tapes tapes now) a)) (Ok tt)
       all_outfits h tapes a =
@@ -612,7 +612,7 @@ module _ {L D : Type 0} (link : L → Link) (left : D → Option (List ℕ)) (co
         one_more : suc (seats - (at + 1)) ≡ seats - at
         one_more = omega (arith, less)
 
-        by_one : {old end : Around} {result : Result (Unit {0}) Stop}
+        by_one : {old end : Environment} {result : Result (Unit {0}) Stop}
             → Does (and_then (equipping_one at programs)
             (λ u. equipping programs (at + 1) (seats - (at + 1)) nothing)) old end result
             → Does (equipping programs at (seats - at) nothing) old end result
@@ -679,7 +679,7 @@ module _ {L D : Type 0} (link : L → Link) (left : D → Option (List ℕ)) (co
             }
 
         pub outfit_refused : (stop : Stop) → Opens link left count at programs now next (Err stop)
-            → (tapes : Tapes) (a : Around) → Does (equipping programs 0 seats nothing)
+            → (tapes : Tapes) (a : Environment) → Does (equipping programs 0 seats nothing)
             (with_world (with_tapes tapes first) a)
             (with_outfits link left count 0 outfits (with_world (with_tapes tapes next) a))
             (Err stop)
@@ -702,7 +702,7 @@ module _ {L D : Type 0} (link : L → Link) (left : D → Option (List ℕ)) (co
   module _ (names : List (List ℕ)) (first : List (Outfit L D)) (old : Outside) where
     -- these are still out, and the others were given back
     pub record AreClosing (outfits : List (Outfit L D)) (now : Outside) : Type 0 where
-      pub back : (tapes : Tapes) (a : Around)
+      pub back : (tapes : Tapes) (a : Environment)
           → with_outfits link left count 0 first (with_world (with_tapes tapes old) a)
           ≡ with_outfits link left count 0 outfits (with_world (with_tapes tapes now) a)
       pub named : AreNamed link names outfits
@@ -759,7 +759,7 @@ module _ {L D : Type 0} (link : L → Link) (left : D → Option (List ℕ)) (co
           }
 
     pub all_closed : (outfits : List (Outfit L D)) (now : Outside) → AreClosing outfits now
-        → outfits ≡ [] → (tapes : Tapes) (a : Around)
+        → outfits ≡ [] → (tapes : Tapes) (a : Environment)
         → with_outfits link left count 0 first (with_world (with_tapes tapes old) a)
         ≡ with_world (with_tapes tapes now) a
     all_closed outfits now so none tapes a = so.back tapes a

@@ -24,7 +24,7 @@ use Rattle.kr_rollout.specs.Openings.{AreAmong, NamesAmong}
 use Rattle.kr_opening.specs.Replicas.{IsFirstIn, settings_of}
 use Rattle.kr_workers.specs.Files as workers
 use Rattle.kr_workers.specs.declared.files.SettingsFile.{SettingsFile}
-use Rattle.kr_cmd_steps.specs.Around.{Around, with_exchanges}
+use Rattle.kr_cmd_steps.specs.Environment.{Environment, with_exchanges}
 use Rattle.kr_cmd_steps.specs.Phases.{with_memory}
 use Rattle.kr_cmd_fleet.specs.FleetFiles.{NamedRows, no_file, file_entries}
 use Rattle.kr_cmd_fleet.specs.Fleets.{Replicas, publishes, publishing, rows_of_replica}
@@ -43,7 +43,7 @@ use Rattle.kr_cmd_steps.specs.inner.ProgramNames.{names_in}
 use Rattle.kr_cmd_steps.specs.inner.Phases.{Does}
 use Rattle.kr_cmd_fleet.proofs.FleetLoads.{same_rows}
 use Rattle.kr_cmd_steps.proofs.Hearing.{around_more, around_none}
-use Rattle.kr_cmd_steps.proofs.Goes.{given, goes_on, home_refl, reach, stops}
+use Rattle.kr_cmd_steps.proofs.RunTo.{given, goes_on, home_refl, reach, stops}
 use Rattle.kr_cmd_steps.proofs.Made.{remembers}
 use Rattle.kr_cmd_fleet.proofs.Outfits.{later_refl, outfits_exchanges}
 use Rattle.kr_cmd_fleet.proofs.Plans.{plan_links, plan_read}
@@ -76,7 +76,7 @@ open_more es fs made p so own opens agree =
 
 -- memory lacks for what is still to come
 lacks_by : (files : List NamedRows) (made : Replicas) (others : List (List ℕ × List ℕ))
-    (a : Around) (rows : Option (List ConfigEntry))
+    (a : Environment) (rows : Option (List ConfigEntry))
     → Does (publishing files (made ++ None ∷ []) others) a a (Err NoMemory)
     → Does (publishes rows made (λ more. publishing files more others)) a a (Err NoMemory)
 lacks_by files made others a None rest = rest
@@ -84,7 +84,7 @@ lacks_by files made others a (Some rows) rest =
     record { home = home_refl a; ends = λ left s. inr (reach left (inl (refl, refl)) s) }
 
 pub lacks_rest : (files : List NamedRows) (made : Replicas) (replicas : List (List ℕ × List ℕ))
-    (a : Around) → Does (publishing files made replicas) a a (Err NoMemory)
+    (a : Environment) → Does (publishing files made replicas) a a (Err NoMemory)
 lacks_rest files made [] a = lacks (give made) a
 lacks_rest files made (replica ∷ others) a =
     lacks_by files made others a (rows_of_replica files replica)
@@ -102,7 +102,7 @@ module _ (files : List NamedRows) (replica : List ℕ × List ℕ) where
       there ∙ is
 
   -- it isn't in
-  pub next_gap : bytes_eq replica.1 no_file ≡ true → (a : Around)
+  pub next_gap : bytes_eq replica.1 no_file ≡ true → (a : Environment)
       → PublishesNext files replica a a (Ok None)
   next_gap gap a made others end result d =
       subst (λ r. Does (publishes r made (λ more. publishing files more others)) a end result)
@@ -111,7 +111,7 @@ module _ (files : List NamedRows) (replica : List ℕ × List ℕ) where
   pub published_gap : bytes_eq replica.1 no_file ≡ true → IsPublishedBy files replica None
   published_gap gap = sym (rows_gap gap)
 
-  pub next_lacks : (a : Around) → PublishesNext files replica a a (Err NoMemory)
+  pub next_lacks : (a : Environment) → PublishesNext files replica a a (Err NoMemory)
   next_lacks a made others = lacks_rest files made (replica ∷ others) a
 
   module _ (rows : List ConfigEntry) (is : rows_of_replica files replica ≡ Some rows) where
@@ -126,14 +126,14 @@ module _ (files : List NamedRows) (replica : List ℕ × List ℕ) where
         subst (λ q. IsPublishedBy files replica (Some q)) (sym one)
         (ap (λ r. Some r) same ∙ sym is)
 
-    by_rows : {old : Around} (made : Replicas) (others : List (List ℕ × List ℕ)) {end : Around}
+    by_rows : {old : Environment} (made : Replicas) (others : List (List ℕ × List ℕ)) {end : Environment}
         {result : Result Replicas Stop}
         → Does (publishes (Some rows) made (λ more. publishing files more others)) old end result
         → Does (publishing files made (replica ∷ others)) old end result
     by_rows {old} made others {end} {result} d = subst (λ r.
         Does (publishes r made (λ more. publishing files more others)) old end result) (sym is) d
 
-    module _ (old new : Around) where
+    module _ (old new : Environment) where
       pub next_published : (p shared : Publication) → shared ≡ p → p.rows ≡ rows
           → Does (make_seeds (plugin_order rows)) old new (Ok p.seeds)
           → PublishesNext files replica old new (Ok (Some shared))
@@ -165,14 +165,14 @@ module _ (files : List NamedRows) (replica : List ℕ × List ℕ) where
 -- nothing was asked
 pub none_next : {L : Type 0} (step : L → Exchange → L → Type 0)
     (files : List NamedRows) (replica : List ℕ × List ℕ) (links : List L)
-    (with_parts : Around → Around) (result : Result (Option Publication) Stop)
-    → ((a : Around) → PublishesNext files replica a a result)
+    (with_parts : Environment → Environment) (result : Result (Option Publication) Stop)
+    → ((a : Environment) → PublishesNext files replica a a result)
     → IfOk result (λ published. OpenBy [] (published ∷ []))
-    → Talk (Among step) links links (λ es. ((a : Around)
+    → Talk (Among step) links links (λ es. ((a : Environment)
     → PublishesNext files replica (with_parts a) (with_parts (with_exchanges es a)) result)
     × IfOk result (λ published. OpenBy es (published ∷ [])))
 none_next step files replica links with_parts result next so =
-    talk_none (Among step) (λ es. ((a : Around)
+    talk_none (Among step) (λ es. ((a : Environment)
     → PublishesNext files replica (with_parts a) (with_parts (with_exchanges es a)) result)
     × IfOk result (λ published. OpenBy es (published ∷ []))) links (
       λ a. subst (λ b. PublishesNext files replica (with_parts a) (with_parts b) result)
@@ -234,13 +234,13 @@ module _ {L D : Type 0} (link : L → Link) (step : L → Exchange → L → Typ
     (left : D → Option (List ℕ)) (count : D → ℕ) (files : List NamedRows)
     (replicas : List (List ℕ × List ℕ)) where
   -- while the first seat has these links and this random source
-  abbrev First : List L → D → Around → Around
+  abbrev First : List L → D → Environment → Environment
   First links dice a = with_first link links (left dice) (count dice) a
 
   -- behind these exchanges, what the others do completes it; and by them what was published opens
   abbrev pub Onward : (number : ℕ) (made : Replicas) (olds mids : List L) (old mid : D)
       → List Exchange → Type 0
-  Onward number made olds mids old mid es = ((a : Around) (end : Around)
+  Onward number made olds mids old mid es = ((a : Environment) (end : Environment)
       (result : Result Replicas Stop)
       → Does (publishing files made (drop number replicas)) (First mids mid (with_exchanges es a))
       end result
@@ -277,7 +277,7 @@ module _ {L D : Type 0} (link : L → Link) (step : L → Exchange → L → Typ
 
     -- how all of it is said of what was asked
     abbrev pub Ended : (news : List L) (new : D) → Result Replicas Stop → List Exchange → Type 0
-    Ended news new result es = ((a : Around) → Does (publishing files [] replicas)
+    Ended news new result es = ((a : Environment) → Does (publishing files [] replicas)
         (First olds old a) (First news new (with_exchanges es a)) result)
         × IfOk result (OpenBy es)
 
@@ -298,8 +298,8 @@ module _ {L D : Type 0} (link : L → Link) (step : L → Exchange → L → Typ
             ∙ ap (λ k. replica ∷ drop k replicas) (sym (add-one number))
 
         -- the next one, and then these steps
-        onward_by : (es : List Exchange) → Onward number made olds mids old mid es → (a : Around)
-            → (end : Around) (result : Result Replicas Stop)
+        onward_by : (es : List Exchange) → Onward number made olds mids old mid es → (a : Environment)
+            → (end : Environment) (result : Result Replicas Stop)
             → Does (publishing files made (replica ∷ drop (number + 1) replicas))
             (First mids mid (with_exchanges es a)) end result
             → Does (publishing files [] replicas) (First olds old a) end result
@@ -309,13 +309,13 @@ module _ {L D : Type 0} (link : L → Link) (step : L → Exchange → L → Typ
 
         -- what the next one's exchanges lead to
         abbrev Next : Result (Option Publication) Stop → List Exchange → Type 0
-        Next result es = ((a : Around) → PublishesNext files replica (First mids mid a)
+        Next result es = ((a : Environment) → PublishesNext files replica (First mids mid a)
             (First news new (with_exchanges es a)) result)
             × IfOk result (λ published. OpenBy es (published ∷ []))
 
         -- it ended there
         both_end : (stop : Stop) (first others : List Exchange)
-            → ((a : Around) → Does (publishing files [] replicas)
+            → ((a : Environment) → Does (publishing files [] replicas)
             (First olds old a)
             (First news new (with_exchanges others (with_exchanges first a))) (Err stop))
             → Ended news new (Err stop) (first ++ others)
@@ -464,22 +464,22 @@ module _ (plan : LoadedFleet) (whole : IsWholePlan (plan_of plan)) (names : List
 
 module _ {L D : Type 0} (link : L → Link) (left : D → Option (List ℕ))
     (count : D → ℕ) where
-  abbrev With : List (Outfit L D) → Around → Around
+  abbrev With : List (Outfit L D) → Environment → Environment
   With outfits a = with_outfits link left count 0 outfits a
 
   -- what was done with the first outfit, with all of them
   pub heard_first : {A : Type 0} (next : Steps A) (result : Result A Stop)
       (outfits : List (Outfit L D)) (first new : Outfit L D) (es : List Exchange)
       → 1 ≤ length outfits → first ≡ get_or outfits 0 first
-      → ((b : Around) → Does next
+      → ((b : Environment) → Does next
       (with_first link first.links (left first.dice) (count first.dice) b)
       (with_first link new.links (left new.dice) (count new.dice) (with_exchanges es b)) result)
-      → (a : Around)
+      → (a : Environment)
       → Does next (With outfits a) (With (set outfits 0 new) (with_exchanges es a)) result
   heard_first next result [] first new es some is does a = absurd (omega (arith, some))
   heard_first next result (outfit ∷ rest) first new es some is does a =
       let b = with_outfits link left count 1 rest a in
-      subst (λ (c : Around). Does next
+      subst (λ (c : Environment). Does next
       (with_first link outfit.links (left outfit.dice) (count outfit.dice) b)
       (with_first link new.links (left new.dice) (count new.dice) c) result)
       (sym (outfits_exchanges link left count es 1 rest a))

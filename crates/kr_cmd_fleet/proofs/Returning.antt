@@ -9,7 +9,7 @@ use Rattle.kr_kms.specs.Calls.{Link}
 use Rattle.kr_kms.specs.Outside.{Outside, at_key, same_link, same_seat}
 use Rattle.kr_kms.proofs.Lent.{links_decide, seats_decide}
 use Rattle.kr_provider.specs.Names.{AreDistinct, names_of}
-use Rattle.kr_cmd_steps.specs.Around.{with_lent}
+use Rattle.kr_cmd_steps.specs.Environment.{with_lent}
 use Rattle.kr_cmd_fleet.specs.declared.outfit.Outfit.{Outfit}
 use Rattle.kr_cmd_steps.specs.inner.Lent.{lent_links}
 use Rattle.kr_cmd_fleet.specs.inner.Outfits.{LinksReturn, OutfitReturn}

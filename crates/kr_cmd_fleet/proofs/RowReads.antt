@@ -28,7 +28,7 @@ use Rattle.kr_watch.specs.declared.item.Item.{Item}
 use Rattle.kr_cmd_messages.specs.declared.refusal.Object.TheVariants.{Plugin}
 use Rattle.kr_cmd_messages.specs.declared.refusal.Stop.{Stop}
 use Rattle.kr_cmd_messages.specs.declared.refusal.Stop.TheVariants.{Fault, NoMemory}
-use Rattle.kr_cmd_steps.specs.Around.{Around, with_exchanges}
+use Rattle.kr_cmd_steps.specs.Environment.{Environment, with_exchanges}
 use Rattle.kr_cmd_steps.specs.ValueSteps.{none_kept, value_read}
 use Rattle.kr_cmd_steps.specs.Phases.{with_memory}
 use Rattle.kr_cmd_steps.specs.Steps.{Steps, give}
@@ -38,7 +38,7 @@ use Rattle.kr_cmd_fleet.specs.declared.watch_start.RowReadNo.{RowReadNo}
 use Rattle.kr_cmd_fleet.specs.declared.watch_start.RowReadNo.TheVariants as no
 use Rattle.kr_cmd_fleet.specs.inner.Beginnings.{with_first}
 use Rattle.kr_cmd_fleet.specs.inner.Readings.{Answered, AreRead, AreReadOf, IsReadEnd, IsReadOf, NoneFailed, ReadsAll, ReadsRow, Unsealed, items_in, plain_of}
-use Rattle.kr_cmd_steps.proofs.Goes.{given, goes_on, home_refl, reach, stops}
+use Rattle.kr_cmd_steps.proofs.RunTo.{given, goes_on, home_refl, reach, stops}
 use Rattle.kr_cmd_steps.proofs.Hearing.{around_more, around_none}
 use Rattle.kr_cmd_steps.proofs.Made.{remembers}
 use Rattle.kr_cmd_steps.proofs.Unsealed.{asks_reader}
@@ -119,7 +119,7 @@ value_of (Err (unseal.PluginFailed name)) = Ok (record { plain = []; stale = tru
 value_of (Err unseal.NoMemory) = Ok (record { plain = []; stale = true })
 
 -- while the first seat has these links
-abbrev First : {L : Type 0} → (L → Link) → List L → Option (List ℕ) → ℕ → Around → Around
+abbrev First : {L : Type 0} → (L → Link) → List L → Option (List ℕ) → ℕ → Environment → Environment
 First link links left count a = with_first link links left count a
 
 -- what is kept opens by all that agrees with these exchanges
@@ -131,8 +131,8 @@ KeptOpen p kept es = (opens : Opens) → AgreeAll opens es → OpenAll opens p.s
 pub record IsWalkBy {L : Type 0} (link : L → Link) (p : Publication) (rows : List Row)
     (number : ℕ) (items : List Item) (olds mids : List L) (kept : CacheState)
     (es : List Exchange) : Type 0 where
-  pub onward : (left : Option (List ℕ)) (count : ℕ) (a : Around)
-      → (end : Around) (result : Result (List Item) Stop)
+  pub onward : (left : Option (List ℕ)) (count : ℕ) (a : Environment)
+      → (end : Environment) (result : Result (List Item) Stop)
       → Does (reading_rows p (drop number rows) items kept)
       (First link mids left count (with_exchanges es a)) end result
       → Does (reading_rows p rows [] none_kept) (First link olds left count a) end result
@@ -207,11 +207,11 @@ module _ (p : Publication) (row : Row) where
 
   module _ {L : Type 0} (link : L → Link) (olds news : List L) (distinct : AreDistinct link olds)
       (kept after : CacheState) (es : List Exchange) (left : Option (List ℕ)) (count : ℕ)
-      (a : Around) where
-    abbrev Old : Around
+      (a : Environment) where
+    abbrev Old : Environment
     Old = First link olds left count a
 
-    abbrev New : Around
+    abbrev New : Environment
     New = First link news left count (with_exchanges es a)
 
     -- a bench read the value by these exchanges
@@ -236,7 +236,7 @@ module _ (p : Publication) (row : Row) where
     -- the row was read, and then the others
     row_then : (rows : List Row) (items : List Item) (result : Result Opened UnsealNo)
         (item : Item) → Reads result → Answered result → item ≡ item_with row (plain_of result)
-        → (end : Around) (made : Result (List Item) Stop)
+        → (end : Environment) (made : Result (List Item) Stop)
         → Does (reading_rows p rows (items ++ item ∷ []) after) New end made
         → Does (Rows rows items kept) Old end made
     row_then rows items result item u answered is end made d =
@@ -306,7 +306,7 @@ module _ {L : Type 0} (link : L → Link) (step : L → Exchange → L → Type 
 
     -- behind what was read so far
     onward_by : (es fs : List Exchange) → Far es → (left : Option (List ℕ)) (count : ℕ)
-        (a : Around) (next : Around → Around) (result : Result (List Item) Stop)
+        (a : Environment) (next : Environment → Environment) (result : Result (List Item) Stop)
         → Does (reading_rows p (row ∷ drop (number + 1) rows) items kept)
         (First link mids left count (with_exchanges es a))
         (next (with_exchanges fs (with_exchanges es a))) result
@@ -462,7 +462,7 @@ module _ {L : Type 0} (link : L → Link) (step : L → Exchange → L → Type 
   }
 
 -- memory lacked before the first row was read
-pub lacks_rows : (p : Publication) (rows : List Row) (a : Around)
+pub lacks_rows : (p : Publication) (rows : List Row) (a : Environment)
     → Does (reading_rows p rows [] none_kept) a a (Err NoMemory)
 lacks_rows p [] a = lacks (give []) a
 lacks_rows p (row ∷ rows) a =
@@ -524,7 +524,7 @@ module _ {L : Type 0} (link : L → Link) (step : L → Exchange → L → Type 
     (rows : List Row) (olds : List L) (left : Option (List ℕ)) (count : ℕ) where
   -- how the rows were read by links that come back
   abbrev pub Leaves : (news : List L) → Result (List Item × ℕ) Stop → List Exchange → Type 0
-  Leaves news made es = ((a : Around) → Does (reading_rows p rows [] none_kept)
+  Leaves news made es = ((a : Environment) → Does (reading_rows p rows [] none_kept)
       (with_first link olds left count a) (with_first link news left count (with_exchanges es a))
       (items_in made)) × IfOk made (λ items. AreReadOf es p rows items.0)
 

@@ -8,11 +8,11 @@ use Rattle.kr_kms.specs.Opens.{OpenAll, Opens, key_of}
 use Rattle.kr_kms.specs.declared.health.Field.{Field}
 use Rattle.kr_kms.specs.declared.seeds.SeedRow.{SeedRow}
 use Rattle.kr_kms.proofs.Opening.{agree_parts}
-use Rattle.kr_cmd_steps.specs.Around.{Around, left_of}
+use Rattle.kr_cmd_steps.specs.Environment.{Environment, step_state}
 use Rattle.kr_cmd_steps.specs.Plugins.{make_seed, make_seeds, seed_row, unless_breach, wrap_seed}
-use Rattle.kr_cmd_steps.specs.Steps.{Goes, IsAt, Left, Point, Steps, and_then, ask_status, borrow_dice, borrow_link, borrow_tape, draw, find, give, give_back, gives, hearing, keep_rows, load, note, read_tape, refuse, settle, take_input, unwrap, with_heard, wrap, write_row}
+use Rattle.kr_cmd_steps.specs.Steps.{RunTo, IsAt, StepState, Point, Steps, and_then, ask_status, borrow_dice, borrow_link, borrow_tape, draw, find, give, give_back, gives, hearing, keep_rows, load, note, read_tape, refuse, settle, take_input, unwrap, with_heard, wrap, write_row}
 use Rattle.kr_cmd_steps.specs.inner.Phases.{Does}
-use Rattle.kr_cmd_steps.proofs.Goes.{stays_refl}
+use Rattle.kr_cmd_steps.proofs.RunTo.{stays_refl}
 
 -- ---- steps that gave something
 
@@ -21,7 +21,7 @@ is_value (gives x) = true
 is_value point = false
 
 -- nothing else is a value
-no_value : {A : Type 0} {x : A} {end left : Left} {here : Point A}
+no_value : {A : Type 0} {x : A} {end left : StepState} {here : Point A}
     → IsAt (gives x) end here left → is_value here ≡ false → ⊥
 no_value at none = absurd (let e : true ≡ false = ap is_value at.0 ∙ none in cc)
 
@@ -30,12 +30,12 @@ value_or other (gives x) = x
 value_or other point = other
 
 -- what was made of what the first of them gave
-module _ {A B : Type 0} (f : A → B) (y : B) (end : Left) where
-  abbrev Mapped : Steps A → Left → Type 0
-  Mapped first left = (x : A) × (y ≡ f x) × Goes (gives x) end first left
+module _ {A B : Type 0} (f : A → B) (y : B) (end : StepState) where
+  abbrev Mapped : Steps A → StepState → Type 0
+  Mapped first left = (x : A) × (y ≡ f x) × RunTo (gives x) end first left
 
-  mapped : (first : Steps A) (left : Left)
-      → Goes (gives y) end (and_then first (λ x. give (f x))) left → Mapped first left
+  mapped : (first : Steps A) (left : StepState)
+      → RunTo (gives y) end (and_then first (λ x. give (f x))) left → Mapped first left
   mapped (load name next) left (inl at) = absurd (no_value at refl)
   mapped (load name next) left (inr (inl at)) = absurd (no_value at refl)
   mapped (load name next) left (inr (inr (bytes, agrees, goes))) =
@@ -124,13 +124,13 @@ module _ (opens : Opens) where
   abbrev SeedOpens : SeedRow → Type 0
   SeedOpens row = opens (key_of row) ≡ Some row.seed
 
-  module _ {A : Type 0} (plugin : List ℕ) (next : SeedRow → Steps A) (x : A) (end : Left) where
+  module _ {A : Type 0} (plugin : List ℕ) (next : SeedRow → Steps A) (x : A) (end : StepState) where
     -- a seed was made, from which the others went on; it opens where what was heard then agrees
-    abbrev Made : Left → Type 0
-    Made left = (row : SeedRow) × (mid : Left) × Goes (gives x) end (next row) mid
+    abbrev Made : StepState → Type 0
+    Made left = (row : SeedRow) × (mid : StepState) × RunTo (gives x) end (next row) mid
         × (AgreeHeard mid.heard → AgreeHeard left.heard × SeedOpens row)
 
-    wrapped_so : (left : Left) → Goes (gives x) end (and_then (wrap_seed plugin) next) left
+    wrapped_so : (left : StepState) → RunTo (gives x) end (and_then (wrap_seed plugin) next) left
         → Made left
     wrapped_so left (inl at) = absurd (no_value at refl)
     wrapped_so left (inr (seed, rest, c, fits, inl at)) = absurd (no_value at refl)
@@ -144,13 +144,13 @@ module _ (opens : Opens) where
       λ agree. earlier (WrapCall plugin seed (Ok wrapped)) left.heard agree,
     )
 
-    unbroken : (breach : Option (Field × List ℕ)) (left : Left)
-        → Goes (gives x) end (and_then (unless_breach plugin breach (wrap_seed plugin)) next) left
+    unbroken : (breach : Option (Field × List ℕ)) (left : StepState)
+        → RunTo (gives x) end (and_then (unless_breach plugin breach (wrap_seed plugin)) next) left
         → Made left
     unbroken None left goes = wrapped_so left goes
     unbroken (Some breach) left at = absurd (no_value at refl)
 
-    made_so : (left : Left) → Goes (gives x) end (and_then (make_seed plugin) next) left
+    made_so : (left : StepState) → RunTo (gives x) end (and_then (make_seed plugin) next) left
         → Made left
     made_so left (inl at) = absurd (no_value at refl)
     made_so left (inr (inl (answer, at))) = absurd (no_value at refl)
@@ -165,11 +165,11 @@ module _ (opens : Opens) where
               ((earlier (StatusCall plugin (Ok status)) left.heard h.0).0, h.1),
         )
 
-  seeds_made : (plugins : List (List ℕ)) (rows : List SeedRow) (end left : Left)
-      → Goes (gives rows) end (make_seeds plugins) left → AgreeHeard end.heard
+  seeds_made : (plugins : List (List ℕ)) (rows : List SeedRow) (end left : StepState)
+      → RunTo (gives rows) end (make_seeds plugins) left → AgreeHeard end.heard
       → AgreeHeard left.heard × OpenAll opens rows
   seeds_made [] rows end left at agree = (
-    subst (λ (l : Left). AgreeHeard l.heard) at.1 agree,
+    subst (λ (l : StepState). AgreeHeard l.heard) at.1 agree,
     subst (OpenAll opens) (sym (ap (value_or rows) at.0)) (All-nil SeedOpens),
   )
   seeds_made (plugin ∷ plugins) rows end left goes agree =
@@ -181,7 +181,7 @@ module _ (opens : Opens) where
       (first.0, subst (OpenAll opens) (sym m.1) (All-cons SeedOpens s.0 m.0 first.1 rest.1))
 
 -- nothing is told, and no plugin was asked before
-abbrev pub listening : Around
+abbrev pub listening : Environment
 listening = record {
   world = record {
     file = λ name. None;
@@ -197,10 +197,10 @@ listening = record {
   heard = Some [];
 }
 
-pub made_open : {old new : Around} (plugins : List (List ℕ)) (seeds : List SeedRow)
+pub made_open : {old new : Environment} (plugins : List (List ℕ)) (seeds : List SeedRow)
     (es : List Exchange) → Does (make_seeds plugins) old new (Ok seeds) → new.heard ≡ Some es
     → (opens : Opens) → AgreeAll opens es → OpenAll opens seeds
 made_open {old} {new} plugins seeds es d is opens agree =
-    let r = d.ends (left_of old) (stays_refl old) in
-    (seeds_made opens plugins seeds r.end (left_of old) r.goes
+    let r = d.ends (step_state old) (stays_refl old) in
+    (seeds_made opens plugins seeds r.end (step_state old) r.goes
     (es, sym r.stays.heard ∙ is, agree)).1

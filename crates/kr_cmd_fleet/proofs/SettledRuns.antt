@@ -10,7 +10,7 @@ use Rattle.kr_kms.specs.declared.world.Access.TheVariants.{ToMake}
 use Rattle.kr_rollout.specs.Openings.{start_of}
 use Rattle.kr_rollout.specs.declared.opening.Entry.{Entry}
 use Rattle.kr_workers.specs.declared.worker.Worker as fleet_worker
-use Rattle.kr_cmd_steps.specs.Around.{Around, IsHome, with_world}
+use Rattle.kr_cmd_steps.specs.Environment.{Environment, IsHome, with_world}
 use Rattle.kr_cmd_steps.specs.Phases.{tape_for}
 use Rattle.kr_cmd_steps.specs.Steps.{Steps}
 use Rattle.kr_cmd_steps.specs.declared.programs.Program.{Program}
@@ -25,7 +25,7 @@ use Rattle.kr_cmd_fleet.specs.inner.FleetOutcomes.{Beginning, LacksSettling, Lea
 use Rattle.kr_cmd_fleet.specs.inner.Workings.{StaysIdle}
 use Rattle.kr_cmd_steps.specs.inner.Lent.{with_lent_tape}
 use Rattle.kr_cmd_steps.specs.inner.Tapes.{LentTape, ReturnedTape, ReturnsSettled}
-use Rattle.kr_cmd_steps.proofs.Goes.{goes_on, home_trans}
+use Rattle.kr_cmd_steps.proofs.RunTo.{goes_on, home_trans}
 use Rattle.kr_cmd_steps.proofs.Loading.{count_here, tape_home}
 use Rattle.kr_cmd_steps.proofs.RisingCounts.{counted}
 use Rattle.kr_cmd_steps.proofs.Tapes.{came_back, lent, nothing}
@@ -35,7 +35,7 @@ rose_later before now (inl less) = omega (arith, less)
 rose_later before now (inr (x, y)) = omega (arith, x, y)
 
 -- what is home stays so where the world was told that a tape is settled
-pub home_settled : {old new : Around} (store : List ℕ) → IsHome old new
+pub home_settled : {old new : Environment} (store : List ℕ) → IsHome old new
     → IsHome old (settled_behind store new)
 home_settled store h = record {
   files = record { file = h.files.file; later = h.files.later };
@@ -46,7 +46,7 @@ home_settled store h = record {
 }
 
 module _ {T L D : Type 0} (link : L → Link) (left : D → Option (List ℕ)) (count : D → ℕ)
-    (programs : List Program) (store : List ℕ) (around : Around) where
+    (programs : List Program) (store : List ℕ) (around : Environment) where
   equipped : (workers : List (fleet_worker.Worker T L D))
       → AreEquipped link left count programs around workers
       → AreEquipped link left count programs (settled_behind store around) workers
@@ -60,7 +60,7 @@ module _ {T L D : Type 0} (link : L → Link) (left : D → Option (List ℕ)) (
 -- the run of the workers, where the world is told so at its end
 settled_run : {T L D : Type 0} (link : L → Link) (step : L → Exchange → L → Type 0)
     (left : D → Option (List ℕ))
-    (count : D → ℕ) (store : List ℕ) (begun : Begun) (mid new : Around) (history : List Entry)
+    (count : D → ℕ) (store : List ℕ) (begun : Begun) (mid new : Environment) (history : List Entry)
     (ended : List (fleet_worker.Worker T L D))
     → RunsFleet link step left count store begun mid new history ended
     → RunsFleet link step left count store begun (settled_behind store mid)
@@ -97,7 +97,7 @@ settled_run link step left count store begun mid new history ended r = record {
 -- where the store couldn't be settled, its count rose since the workers started
 pub rose_unsettled : {T L D : Type 0} {link : L → Link}
     {step : L → Exchange → L → Type 0} {left : D → Option (List ℕ)} {count : D → ℕ}
-    {store : List ℕ} {begun : Begun} {mid new : Around} {stop : Stop}
+    {store : List ℕ} {begun : Begun} {mid new : Environment} {stop : Stop}
     → FailsToSettle T link step left count store begun mid new stop
     → Rose (mid.world.tapes.faults store) (new.world.tapes.faults store)
 rose_unsettled {store = store} {begun = begun} {mid = mid} f =
@@ -110,7 +110,7 @@ module _ (T : Type 0) {L D : Type 0} (link : L → Link)
     (left : D → Option (List ℕ)) (count : D → ℕ) (Begins : Beginning T L D) (watched : Bool)
     (store : List ℕ) (plan : FleetPlan) (steps : Steps Begun) where
   -- the tape was settled
-  pub settled_record : (old new : Around) (made : Record)
+  pub settled_record : (old new : Environment) (made : Record)
       → LeavesRecord T link step left count Begins false watched steps store plan old new made
       → LeavesRecord T link step left count Begins true watched steps store plan old
       (settled_behind store new) made
@@ -120,7 +120,7 @@ module _ (T : Type 0) {L D : Type 0} (link : L → Link)
       l.known (home_settled store l.home)
 
   -- or it couldn't be
-  unsettled : (old a : Around) (told : Option (List ℕ)) (n later : ℕ) (made : Record) (stop : Stop)
+  unsettled : (old a : Environment) (told : Option (List ℕ)) (n later : ℕ) (made : Record) (stop : Stop)
       → LeavesRecord T link step left count Begins false watched steps store plan old
       (with_lent_tape store told n a) made
       → Rose n later → stop ≡ Fault Store later
@@ -163,23 +163,23 @@ module _ (T : Type 0) {L D : Type 0} (link : L → Link)
 module _ (T : Type 0) {L D : Type 0} (link : L → Link)
     (step : L → Exchange → L → Type 0)
     (left : D → Option (List ℕ)) (count : D → ℕ) (Begins : Beginning T L D) (watched : Bool)
-    (store : List ℕ) (plan : FleetPlan) (steps : Steps Begun) (a b : Around) (old out : Outside)
+    (store : List ℕ) (plan : FleetPlan) (steps : Steps Begun) (a b : Environment) (old out : Outside)
     (given : Option (List ℕ)) (first : ℕ) (mid new : Outside) (back : Option (List ℕ)) (n : ℕ) where
-  abbrev pub Began : Around
+  abbrev pub Began : Environment
   Began = with_lent_tape store given first (with_world out a)
 
-  abbrev pub Settles : Around → Result Record Stop → Type 0
+  abbrev pub Settles : Environment → Result Record Stop → Type 0
   Settles end result = SettlesBy T link step left count Begins watched
       (tape_for store ToMake steps) store
       plan (with_world old a) end result
 
-  abbrev pub SettlesElse : (Idle : Type 0) → Around → Result Record Stop → Type 0
+  abbrev pub SettlesElse : (Idle : Type 0) → Environment → Result Record Stop → Type 0
   SettlesElse Idle end result = SettlesOr T link step left count Idle Begins watched
       (tape_for store ToMake steps) store
       plan (with_world old a) end result
 
   -- behind the borrowing
-  borrowed_unsettled : LentTape store ToMake old out given first → (end : Around) (stop : Stop)
+  borrowed_unsettled : LentTape store ToMake old out given first → (end : Environment) (stop : Stop)
       → LacksSettling T link step left count Begins steps store Began end stop
       → LacksSettling T link step left count Begins (tape_for store ToMake steps) store
       (with_world old a) end stop
@@ -192,7 +192,7 @@ module _ (T : Type 0) {L D : Type 0} (link : L → Link)
     home = home_trans d.home l.home;
   }
 
-  pub borrowed : LentTape store ToMake old out given first → (end : Around)
+  pub borrowed : LentTape store ToMake old out given first → (end : Environment)
       (result : Result Record Stop)
       → SettlesBy T link step left count Begins watched steps store plan Began end result
       → Settles end result
@@ -248,7 +248,7 @@ module _ (T : Type 0) {L D : Type 0} (link : L → Link)
 
   -- the same; where no worker was started this holds
   module _ (begun ended : List (List L)) where
-    by_either : (stop : Stop) (end : Around) → ended ≡ begun → Settles end (Err stop)
+    by_either : (stop : Stop) (end : Environment) → ended ≡ begun → Settles end (Err stop)
         → SettlesElse (ended ≡ begun) end (Err stop)
     by_either stop end idle (inl e) = inl (idle, inl e)
     by_either stop end idle (inr (inl l)) = inl (idle, inr l)

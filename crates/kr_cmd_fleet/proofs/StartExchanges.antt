@@ -9,7 +9,7 @@ use Rattle.kr_provider.specs.AskedLinks.{Among}
 use Rattle.kr_workers.specs.declared.worker.Worker.{Worker}
 use Rattle.kr_cmd_fleet.specs.StartExchanges.{AreOfSeats, AsksFirst, WereAsked, keys_of, links_in}
 use Rattle.kr_cmd_messages.specs.declared.refusal.Stop.{Stop}
-use Rattle.kr_cmd_steps.specs.Around.{Around, with_exchanges}
+use Rattle.kr_cmd_steps.specs.Environment.{Environment, with_exchanges}
 use Rattle.kr_cmd_steps.specs.Steps.{Steps, hearing}
 use Rattle.kr_cmd_steps.specs.inner.Lent.{Name}
 use Rattle.kr_cmd_steps.proofs.Hearing.{around_none}
@@ -187,13 +187,13 @@ module _ {L : Type 0} (link : L → Link) (lent took : ℕ → L → Type 0)
 pub not_started : (T : Type 0) {L D : Type 0} (link : L → Link)
     (step : L → Exchange → L → Type 0) (lent took : ℕ → L → Type 0)
     (left : D → Option (List ℕ)) (count : D → ℕ) (watched : Bool) (plan : FleetPlan)
-    (steps : Name → Steps Begun) (old new : Name → Around → Around) (stop : Stop) (world : Outside)
-    → ((Begins : Beginning T L D) (name : Name) (a : Around)
+    (steps : Name → Steps Begun) (old new : Name → Environment → Environment) (stop : Stop) (world : Outside)
+    → ((Begins : Beginning T L D) (name : Name) (a : Environment)
     → RunsBy T link step left count Begins watched (steps name) name plan (old name a)
     (new name a) (Err stop))
     → StartsLent link lent took step world world (λ es begun back.
     StaysIdle {A = Record} (Err stop) begun back
-    × ((name : Name) (a : Around) → RunsBy T link step left count
+    × ((name : Name) (a : Environment) → RunsBy T link step left count
     (BeginsLent (hearing es a.heard) es step lent took begun back) watched (steps name) name plan
     (old name a) (new name (with_exchanges es a)) (Err stop)))
 not_started T {L} link step lent took left count watched plan steps old new stop world ends =

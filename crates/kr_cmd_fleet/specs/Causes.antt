@@ -6,17 +6,17 @@ use Rattle.kr_base.specs.Faults.{Rose}
 use Rattle.kr_workers.specs.Endings.{status_of}
 use Rattle.kr_workers.specs.declared.ending.Ending.{Ending}
 use Rattle.kr_workers.specs.declared.ending.Ending.TheVariants as ending
-use Rattle.kr_cmd_steps.specs.Around.{Around, Reaches, count_at, faults_at, left_of}
+use Rattle.kr_cmd_steps.specs.Environment.{Environment, StepsEndAt, count_at, faults_at, step_state}
 use Rattle.kr_cmd_fleet.specs.Fleets.{Begun}
 use Rattle.kr_cmd_messages.specs.Message.{refusal_line, status_of_refusal}
 use Rattle.kr_cmd_steps.specs.Ran.{WroteNothing}
 use Rattle.kr_cmd_messages.specs.Receipts.{Receipt}
-use Rattle.kr_cmd_steps.specs.Steps.{Call, Goes, Left, Point, Steps, awaits, gives, refuses}
+use Rattle.kr_cmd_steps.specs.Steps.{Call, RunTo, StepState, Point, Steps, awaits, gives, refuses}
 use Rattle.kr_cmd_messages.specs.declared.refusal.Refusal.{Refusal}
 use Rattle.kr_cmd_messages.specs.declared.refusal.Stop.{Stop}
 
 -- no count of the files, tapes, random sources and links rose, nor one of the sinks
-pub record NoneRose (old new : Around) (output errors : Receipt) : Type 0 where
+pub record NoneRose (old new : Environment) (output errors : Receipt) : Type 0 where
   pub calls : (call : Call) → Rose (faults_at call old) (faults_at call new) → ⊥
   pub written : Rose output.old_faults output.new_faults → ⊥
   pub told : Rose errors.old_faults errors.new_faults → ⊥
@@ -26,24 +26,24 @@ abbrev pub HasEnded : (Result Ending Stop → Type 0) → (errors : Receipt) →
 HasEnded HasStarted errors ending = HasStarted (Ok ending) × WroteNothing errors
 
 -- a call of the steps up to the workers failed, so that its count and its object's rose
-abbrev pub HasFailed : Steps Begun → (old new : Around) → Call → Type 0
-HasFailed steps old new call = Reaches steps (left_of old) new (awaits call)
+abbrev pub HasFailed : Steps Begun → (old new : Environment) → Call → Type 0
+HasFailed steps old new call = StepsEndAt steps (step_state old) new (awaits call)
     × Rose (faults_at call old) (faults_at call new)
     × Rose (count_at call old) (count_at call new)
 
 -- these steps refuse so; only its line was written
-abbrev pub HasRefused : Steps Begun → (old new : Around) → (output errors : Receipt) → Refusal
+abbrev pub HasRefused : Steps Begun → (old new : Environment) → (output errors : Receipt) → Refusal
     → Type 0
-HasRefused steps old new output errors why = Reaches steps (left_of old) new (refuses why)
+HasRefused steps old new output errors why = StepsEndAt steps (step_state old) new (refuses why)
     × WroteNothing output × Appends errors.old errors.new (refusal_line why)
 
 -- the steps up to the workers, over what is told and some drawn bytes, come to this point
-abbrev pub WouldBegin : Steps Begun → (old : Around) → Point Begun → Type 0
-WouldBegin steps old point = (end : Left) × Goes point end steps (left_of old)
+abbrev pub WouldBegin : Steps Begun → (old : Environment) → Point Begun → Type 0
+WouldBegin steps old point = (end : StepState) × RunTo point end steps (step_state old)
 
 -- `HasStarted`: what the call did once the workers were started, by how it ended
 module _ (steps : Steps Begun) (store : List ℕ) (HasStarted : Result Ending Stop → Type 0)
-    (old new : Around) (output errors : Receipt) where
+    (old new : Environment) (output errors : Receipt) where
   -- such a point decides how the call ends, but for a fault, 4, and want of memory, 5: by this
   -- refusal, or by the workers' replies
   abbrev pub IsDecidedBy : Point Begun → ℕ → Type 0

@@ -14,8 +14,8 @@ use Rattle.kr_cmd_steps.specs.ValueSteps.{none_kept, value_read}
 use Rattle.kr_cmd_steps.specs.Phases.{with_memory}
 use Rattle.kr_cmd_steps.specs.Steps.{Steps, and_then, find, give}
 
-abbrev pub Items : Type 0
-Items = List Item
+abbrev pub LiveItems : Type 0
+LiveItems = List Item
 
 -- what was read of a row; no data where its value is refused
 abbrev pub plain_read : Result Opened ValueNo → Option (List ℕ)

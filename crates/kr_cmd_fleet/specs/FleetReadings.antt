@@ -7,7 +7,7 @@ use Rattle.kr_rollout.specs.declared.line.Gave.TheVariants as gave
 use Rattle.kr_rollout.specs.declared.opening.Entry.{Entry}
 use Rattle.kr_workers.specs.declared.ending.Ending.{Ending}
 use Rattle.kr_workers.specs.declared.ending.Ending.TheVariants as ending
-use Rattle.kr_cmd_steps.specs.Around.{Around}
+use Rattle.kr_cmd_steps.specs.Environment.{Environment}
 use Rattle.kr_cmd_fleet.specs.Causes.{Causes, HasEnded, NoneRose}
 use Rattle.kr_cmd_fleet.specs.FleetReady.{IsFleetTold, IsReady}
 use Rattle.kr_cmd_fleet.specs.Fleets.{Starts, fleet_steps}
@@ -23,7 +23,7 @@ PassesLimit history = (e : Entry) × Contains history e × (needed : ℕ)
 
 module _ (T : Type 0) {L D : Type 0} (link : L → Link)
     (step : L → Exchange → L → Type 0) (lent took : ℕ → L → Type 0)
-    (left : D → Option (List ℕ)) (count : D → ℕ) (words : FleetWords) (old new : Around)
+    (left : D → Option (List ℕ)) (count : D → ℕ) (words : FleetWords) (old new : Environment)
     (output errors : Receipt) where
   abbrev pub HasStarted : Result Ending Stop → Type 0
   HasStarted result = Starts T link step lent took left count words old new output result

@@ -36,7 +36,7 @@ use Rattle.kr_workers.specs.declared.ending.Ending.{Ending}
 use Rattle.kr_workers.specs.declared.files.SettingsFile.{SettingsFile}
 use Rattle.kr_workers.specs.declared.worker.Worker as fleet_worker
 use Rattle.kr_cmd_steps.specs.Afterwards.{AreLeft}
-use Rattle.kr_cmd_steps.specs.Around.{Around, Ends, IsHome, Reaches, left_of, with_world}
+use Rattle.kr_cmd_steps.specs.Environment.{Environment, Ends, IsHome, StepsEndAt, step_state, with_world}
 use Rattle.kr_cmd_steps.specs.Phases.{by_result, stored_on, tape_for, with_memory}
 use Rattle.kr_cmd_messages.specs.FleetAsked.{AskAlone, AsksFleet}
 use Rattle.kr_cmd_fleet.specs.FirstItems.{watching}
@@ -181,7 +181,7 @@ watch_steps words = steps_of_fleet true words
 
 -- what the core begins with: the rows of the store's file and what the replicas published, a gap
 -- for one that isn't in; a configuration may name the plugins of all that the fleet file names
-abbrev pub opening_of : (store : List ℕ) → Begun → Around → Opening
+abbrev pub opening_of : (store : List ℕ) → Begun → Environment → Opening
 opening_of store begun mid = record {
   format = begun.stored.format;
   rows = begun.stored.rows;
@@ -195,7 +195,7 @@ opening_of store begun mid = record {
 
 -- a worker has the random source of its seat, and the seat's link to each plugin
 pub record IsEquipped {L D : Type 0} (link : L → Link) (left : D → Option (List ℕ))
-    (count : D → ℕ) (programs : List Program) (seat : ℕ) (around : Around) (links : List L)
+    (count : D → ℕ) (programs : List Program) (seat : ℕ) (around : Environment) (links : List L)
     (dice : D) : Type 0 where
   pub names : names_of link links ≡ map (λ (program : Program). program.plugin) programs
   pub links_are : All (λ l. link l ≡ link_at around.world.links seat (link l).name) links
@@ -203,7 +203,7 @@ pub record IsEquipped {L D : Type 0} (link : L → Link) (left : D → Option (L
   pub count_is : count dice ≡ around.world.dice.faults seat
 
 abbrev pub AreEquipped : {T L D : Type 0} → (link : L → Link) → (left : D → Option (List ℕ))
-    → (count : D → ℕ) → List Program → Around → List (fleet_worker.Worker T L D) → Type 0
+    → (count : D → ℕ) → List Program → Environment → List (fleet_worker.Worker T L D) → Type 0
 AreEquipped {T} {L} {D} link left count programs around workers = (seat : ℕ)
     (d : fleet_worker.Worker T L D) → seat < length workers
     → IsEquipped link left count programs seat around (get_or workers seat d).bench.links
@@ -221,7 +221,7 @@ HasRows None begun rows before now = ⊤
 -- beside the links and random sources of so many seats and the store's tape all is as it was when
 -- the workers started; so is what was heard up to there: the exchanges of the workers' lines stand
 -- in their history
-pub record LeavesRest (store : List ℕ) (seats : ℕ) (mid new : Around) : Type 0 where
+pub record LeavesRest (store : List ℕ) (seats : ℕ) (mid new : Environment) : Type 0 where
   pub file : new.world.file ≡ mid.world.file
   pub tapes : (other : List ℕ) → other ≢ store
       → new.world.tapes.told other ≡ mid.world.tapes.told other
@@ -246,7 +246,7 @@ pub record LeavesRest (store : List ℕ) (seats : ℕ) (mid new : Around) : Type
 pub record RunsFleet {T L D : Type 0} (link : L → Link)
     (step : L → Exchange → L → Type 0)
     (left : D → Option (List ℕ)) (count : D → ℕ) (store : List ℕ) (begun : Begun)
-    (mid new : Around) (history : List Entry) (ended : List (fleet_worker.Worker T L D))
+    (mid new : Environment) (history : List Entry) (ended : List (fleet_worker.Worker T L D))
     : Type 0 where
   pub published : settings_of begun.replicas
       ≡ map (rows_of_replica begun.plan.files) begun.plan.fleet.replicas
@@ -272,7 +272,7 @@ pub record RunsFleet {T L D : Type 0} (link : L → Link)
   pub rest : LeavesRest store (length begun.plan.fleet.workers) mid new
 
 -- no worker was started: the store has its rows, and what the workers would have had is as it was
-pub record StartsNone (store : List ℕ) (begun : Begun) (mid new : Around) : Type 0 where
+pub record StartsNone (store : List ℕ) (begun : Begun) (mid new : Environment) : Type 0 where
   pub stored : HasRows (new.world.tapes.told store) begun begun.stored.rows
       (mid.world.tapes.faults store) (new.world.tapes.faults store)
   pub links : new.world.links.told ≡ mid.world.links.told
@@ -284,8 +284,8 @@ pub record StartsNone (store : List ℕ) (begun : Begun) (mid new : Around) : Ty
 pub record FailsToSettle (T : Type 0) {L D : Type 0} (link : L → Link)
     (step : L → Exchange → L → Type 0)
     (left : D → Option (List ℕ)) (count : D → ℕ) (store : List ℕ) (begun : Begun)
-    (mid new : Around) (stop : Stop) : Type 0 where
-  pub ran : Around
+    (mid new : Environment) (stop : Stop) : Type 0 where
+  pub ran : Environment
   pub history : List Entry
   pub ended : List (fleet_worker.Worker T L D)
   pub runs : RunsFleet link step left count store begun mid ran history ended
@@ -295,7 +295,7 @@ pub record FailsToSettle (T : Type 0) {L D : Type 0} (link : L → Link)
   pub rest : LeavesRest store 0 ran new
 
 -- the store was settled behind the workers, and the world was told so
-abbrev pub settled_behind : (store : List ℕ) → Around → Around
+abbrev pub settled_behind : (store : List ℕ) → Environment → Environment
 settled_behind store mid = with_world
     (record mid.world { asked = with_call (Settled store) mid.world.asked }) mid
 
@@ -321,22 +321,22 @@ module _ (T : Type 0) {L D : Type 0} (link : L → Link)
     (left : D → Option (List ℕ)) (count : D → ℕ) where
   -- nothing was written: the steps up to the workers ended the command, or want of memory did
   -- before they started, or what they stored couldn't be settled
-  abbrev pub StopsBefore : Steps Begun → (store : List ℕ) → (old new : Around) → Receipt
+  abbrev pub StopsBefore : Steps Begun → (store : List ℕ) → (old new : Environment) → Receipt
       → Result Ending Stop → Type 0
   StopsBefore steps store old new output (Ok ending) = ⊥
   StopsBefore steps store old new output (Err stop) =
-      (Ends steps (left_of old) old new (Err stop)
-      ⊎ ((stop ≡ NoMemory) × ((mid : Around) × (begun : Begun)
-      × Reaches steps (left_of old) mid (gives begun)
+      (Ends steps (step_state old) old new (Err stop)
+      ⊎ ((stop ≡ NoMemory) × ((mid : Environment) × (begun : Begun)
+      × StepsEndAt steps (step_state old) mid (gives begun)
       × StartsNone store begun mid new × IsHome old mid))
-      ⊎ ((mid : Around) × (begun : Begun) × Reaches steps (left_of old) mid (gives begun)
+      ⊎ ((mid : Environment) × (begun : Begun) × StepsEndAt steps (step_state old) mid (gives begun)
       × FailsToSettle T link step left count store begun mid new stop × IsHome old mid))
       × WroteNothing output
 
   -- links that had come so far before the workers came back so, unless these had them: then as
   -- these left them, and what the first worker's had answered before is just this
   abbrev pub ComeBack : List Exchange → (begun back : List (List L)) → (steps : Steps Begun)
-      (store : List ℕ) (old new : Around) (output : Receipt) (result : Result Ending Stop)
+      (store : List ℕ) (old new : Environment) (output : Receipt) (result : Result Ending Stop)
       → StopsBefore steps store old new output result → Type 0
   ComeBack exchanges begun back steps store old new output (Ok ending) stops = ⊥
   ComeBack exchanges begun back steps store old new output (Err stop) (inl ends, idle) =
@@ -353,11 +353,11 @@ module _ (T : Type 0) {L D : Type 0} (link : L → Link)
     (left : D → Option (List ℕ)) (count : D → ℕ) where
   -- The workers were started, and what they stored is settled. What the steps up to them asked of
   -- plugins is just what the first seat's links answered before the first worker had them
-  pub record Starts (words : FleetWords) (old new : Around) (output : Receipt)
+  pub record Starts (words : FleetWords) (old new : Environment) (output : Receipt)
       (result : Result Ending Stop) : Type 0 where
     pub begun : Begun
-    pub mid : Around
-    pub reaches : Reaches (fleet_steps words) (left_of old) mid (gives begun)
+    pub mid : Environment
+    pub reaches : StepsEndAt (fleet_steps words) (step_state old) mid (gives begun)
     pub since : IsHome old mid
     pub exchanges : List Exchange
     pub heard : mid.heard ≡ hearing exchanges old.heard
@@ -371,14 +371,14 @@ module _ (T : Type 0) {L D : Type 0} (link : L → Link)
     pub made : runs.made.exchanges ≡ exchanges
 
   -- how the call ended
-  abbrev pub EndsFleet : FleetWords → (old new : Around) → Receipt → Result Ending Stop
+  abbrev pub EndsFleet : FleetWords → (old new : Environment) → Receipt → Result Ending Stop
       → List Exchange → Type 0
   EndsFleet words old new output result exchanges =
       StopsBefore T link step left count (fleet_steps words) words.store old new output result
       ⊎ ((start : Starts words old new output result) × (start.exchanges ≡ exchanges))
 
   -- so these links came back
-  abbrev pub BackFrom : (begun back : List (List L)) → (words : FleetWords) (old new : Around)
+  abbrev pub BackFrom : (begun back : List (List L)) → (words : FleetWords) (old new : Environment)
       (output : Receipt) (result : Result Ending Stop) (exchanges : List Exchange)
       → EndsFleet words old new output result exchanges → Type 0
   BackFrom begun back words old new output result exchanges (inl stops) =
@@ -391,7 +391,7 @@ module _ (T : Type 0) {L D : Type 0} (link : L → Link)
   -- the links that were lent to the first seat answered, of all that were handed out; where the
   -- workers were started, it is just what those answered with which the first worker began (one
   -- list, that of `Starts`)
-  pub record DidFleet (words : FleetWords) (old new : Around) (output : Receipt)
+  pub record DidFleet (words : FleetWords) (old new : Environment) (output : Receipt)
       (result : Result Ending Stop) : Type 0 where
     pub home : IsHome old new
     pub exchanges : List Exchange
@@ -412,7 +412,7 @@ TellsFleet (Err stop) errors status = Tells (line_of (Err stop)) (stop_status (E
 -- what a call of `run` did for a fleet
 pub record RanFleet (T : Type 0) {L D : Type 0} (link : L → Link)
     (step : L → Exchange → L → Type 0) (lent took : ℕ → L → Type 0)
-    (left : D → Option (List ℕ)) (count : D → ℕ) (words : FleetWords) (old new : Around)
+    (left : D → Option (List ℕ)) (count : D → ℕ) (words : FleetWords) (old new : Environment)
     (output errors : Receipt) (status : ℕ) : Type 0 where
   pub result : Result Ending Stop
   pub did : DidFleet T link step lent took left count words old new output result
@@ -422,7 +422,7 @@ pub record RanFleet (T : Type 0) {L D : Type 0} (link : L → Link)
 
 -- what a call did where no one may wait: for a fleet, a watch and a load nothing, unless memory
 -- lacked to read its words
-abbrev pub RanAlone : (words : List (List ℕ)) → (old new : Around) → (output errors : Receipt)
+abbrev pub RanAlone : (words : List (List ℕ)) → (old new : Environment) → (output errors : Receipt)
     → Option ℕ → Type 0
 RanAlone words old new output errors (Some status) =
     Ran words old new output errors status × Readings words old new output errors status

@@ -9,9 +9,9 @@ ghost use Rattle.kr_rollout.specs.Openings.{AreAmong};
 ghost use Rattle.kr_opening.specs.Replicas.{IsFirstIn};
 ghost use Rattle.kr_script.specs.Fleets.{fleet_of};
 ghost use Rattle.kr_script.specs.Output.{fleet_output};
-ghost use Rattle.kr_cmd_steps.specs.Around.{Around, with_exchanges, with_world};
+ghost use Rattle.kr_cmd_steps.specs.Environment.{Environment, with_exchanges, with_world};
 ghost use Rattle.kr_cmd_steps.specs.Phases.{stored_on};
-ghost use Rattle.kr_cmd_fleet.specs.FirstItems.{Items};
+ghost use Rattle.kr_cmd_fleet.specs.FirstItems.{LiveItems};
 ghost use Rattle.kr_cmd_fleet.specs.StartExchanges.{AsksFirst, Exchanges, OpenBy};
 ghost use Rattle.kr_cmd_fleet.specs.Fleets.{DidFleet, WritesFleet, beginning, equipping_all, launching};
 ghost use Rattle.kr_cmd_fleet.specs.Fleets.{over_store, publishing, starting};
@@ -76,7 +76,7 @@ pub fn fleet<R: Threads + Wait + Sync, W: World, O: Sink>(
     world: &mut W,
     output: &mut O,
 ) -> Result<Ending, Stop>
-    ensures did { (es : Exchanges) × ((a : Around)
+    ensures did { (es : Exchanges) × ((a : Environment)
         → DidFleet W.Tap W.Link.link W.Link.step W.lent W.took W.Rand.left W.Rand.count words.now
         (with_world (W.told world.old) a) (with_world (W.told world.new) (with_exchanges es a))
         (receipt (O.held output.old) (O.held output.new) (O.count output.old) (O.count output.new))
@@ -111,7 +111,7 @@ pub fn run_fleet_over_store<R: Threads + Wait + Sync, W: World>(
 ) -> Result<Record, Stop>
     requires plan { IsWholePlan (plan_of plan.now) }
     ensures { StartsLent W.Link.link W.lent W.took W.Link.step (W.told world.old)
-        (W.told world.new) (λ es begun back. (a : Around)
+        (W.told world.new) (λ es begun back. (a : Environment)
         → SettlesOr W.Tap W.Link.link W.Link.step W.Rand.left W.Rand.count (back ≡ begun)
         (BeginsLent (hearing es a.heard) es W.Link.step W.lent W.took begun back) watched
         (over_store watched store.now (plan_of plan.now)) store.now (plan_of plan.now)
@@ -138,7 +138,7 @@ fn run_fleet_on_tape<R: Threads + Wait + Sync, W: World>(
     requires plan { IsWholePlan (plan_of plan.now) }
     ensures made { StartsLent W.Link.link W.lent W.took W.Link.step (W.told world.old)
         (W.told world.new) (λ es begun back. StaysIdle result.0 begun back
-        × ((name : Name) (a : Around)
+        × ((name : Name) (a : Environment)
         → RunsBy W.Tap W.Link.link W.Link.step W.Rand.left W.Rand.count
         (BeginsLent (hearing es a.heard) es W.Link.step W.lent W.took begun back) watched
         (and_then (stored_on Object.Store name) (beginning watched (plan_of plan.now))) name
@@ -190,7 +190,7 @@ fn run_outfitted_fleet<R: Threads + Wait + Sync, W: World>(
     requires plan { IsWholePlan (plan_of plan.now) }
     ensures made { StartsLent W.Link.link W.lent W.took W.Link.step (W.told world.old)
         (W.told world.new) (λ es begun back. StaysIdle result.0 begun back
-        × ((name : Name) (a : Around)
+        × ((name : Name) (a : Environment)
         → RunsBy W.Tap W.Link.link W.Link.step W.Rand.left W.Rand.count
         (BeginsLent (hearing es a.heard) es W.Link.step W.lent W.took begun back) watched
         (equipping_all watched (plan_of plan.now) (stored_of store) budgets.now.entries.items) name
@@ -236,7 +236,7 @@ pub fn begin<R: Threads + Wait + Sync, T: Tape + Send, L: Kms + Send, D: Dice + 
     requires seats { length outfits.0 ≡ length plan.now.script.workers.0 }
     requires named { AreNamed L.link (names_in plan.now.programs) outfits.0 }
     ensures made { StartsFrom L.step outfits.0 (λ es begun.
-        StaysIdle result.0 begun (links_of result.2.0) × ((name : Name) (a : Around)
+        StaysIdle result.0 begun (links_of result.2.0) × ((name : Name) (a : Environment)
         → RunsBy T L.link L.step D.left D.count
         (AsksOutfits (hearing es a.heard) es begun (links_of result.2.0)) watched
         (launching watched (plan_of plan.now) (stored_of store) budgets.now.entries.items) name
@@ -283,7 +283,7 @@ fn run_core_and_workers<R: Threads + Wait + Sync, T: Tape + Send, L: Kms + Send,
     requires published { ArePublished (named plan.now.files.0)
         plan.now.script.replicas.0 replicas.0 }
     requires revision { start.revision ≡ length store.rows }
-    ensures made { (name : Name) (first a : Around) (olds : Outfits L D) (es : Exchanges)
+    ensures made { (name : Name) (first a : Environment) (olds : Outfits L D) (es : Exchanges)
         (watched : Bool) → IsPublished L.link D.left D.count L.step watched plan.now
         budgets.now.entries.items name store first a olds outfits.0 es replicas.0 start.items.0
         → RunsBy T L.link L.step D.left D.count
@@ -383,8 +383,8 @@ fn publish_first<L: Kms, D: Dice>(
     requires named { AreNamed L.link (names_in plan.now.programs) outfits.0 }
     ensures does { (es : Exchanges)
         × AsksFirst L.step es (links_of outfits.0) (links_of result.1.0)
-        × ((a : Around) → Does (publishing (named plan.now.files.0) [] plan.now.script.replicas.0)
-        (with_outfits L.link D.left D.count 0 outfits.0 a)
+        × ((a : Environment) → Does (publishing (named plan.now.files.0) []
+        plan.now.script.replicas.0) (with_outfits L.link D.left D.count 0 outfits.0 a)
         (with_outfits L.link D.left D.count 0 result.1.0 (with_exchanges es a))
         (published_in result.0)) × IfOk result.0 (λ made. OpenBy es made.0) }
     ensures replicas { IfOk result.0 (λ made. ArePublished
@@ -409,7 +409,7 @@ fn publish_each<L: Kms, D: Dice>(
 ) -> Result<List<Option<Shared<Published>>>, Stop>
     requires read { All (λ replica. MayPublish (plugin_names L.link links.old)
         (named files.now) replica.1) replicas.now }
-    ensures does { Talk (Among L.step) links.old links.new (λ es. ((a : Around)
+    ensures does { Talk (Among L.step) links.old links.new (λ es. ((a : Environment)
         → Does (publishing (named files.now) [] replicas.now)
         (with_first L.link links.old (D.left dice.old) (D.count dice.old) a)
         (with_first L.link links.new (D.left dice.new) (D.count dice.new) (with_exchanges es a))
@@ -442,7 +442,7 @@ fn publish_replica<L: Kms, D: Dice>(
     dice: &mut D,
 ) -> Result<Option<Shared<Published>>, Stop>
     requires read { MayPublish (plugin_names L.link links.old) (named files.now) replica.now.1 }
-    ensures does { Talk (Among L.step) links.old links.new (λ es. ((a : Around)
+    ensures does { Talk (Among L.step) links.old links.new (λ es. ((a : Environment)
         → PublishesNext (named files.now) replica.now
         (with_first L.link links.old (D.left dice.old) (D.count dice.old) a)
         (with_first L.link links.new (D.left dice.new) (D.count dice.new) (with_exchanges es a))
@@ -486,7 +486,7 @@ fn start_core<T: Tape>(
     requires reloads { budgets.now.reloads.items ≡ all_reloads plan.now.script.workers.0 }
     requires few { sum budgets.now.entries.items ≤ journal_limit }
     requires fit { sum budgets.now.reloads.items ≤ sum budgets.now.entries.items }
-    ensures does { (a : Around) (items : Items) → Does (starting (plan_of plan.now)
+    ensures does { (a : Environment) (items : LiveItems) → Does (starting (plan_of plan.now)
         (stored_of store) budgets.now.entries.items replicas.0 items) a a (begun_in
         (begun_with plan.now budgets.now.entries.items store replicas.0 items) result) }
     ensures core { IfOk result (λ core. core ≡ first_core plan.now budgets.now.reloads.items

@@ -10,7 +10,7 @@ ghost use Rattle.kr_kms.specs.Outside.{KeepsFiles, KeepsObjects};
 ghost use Rattle.kr_kms.specs.declared.world.WorldCall.{WorldCall};
 ghost use Rattle.kr_provider.specs.PluginOrder.{plugin_order};
 ghost use Rattle.kr_script.specs.Fleets.{fleet_of, worker_of};
-ghost use Rattle.kr_cmd_steps.specs.Around.{Around, with_world};
+ghost use Rattle.kr_cmd_steps.specs.Environment.{Environment, with_world};
 ghost use Rattle.kr_cmd_fleet.specs.FleetFiles.{all_rows, file_in, file_of_replica, fleet_in, all_files, planning, file_programs};
 ghost use Rattle.kr_cmd_fleet.specs.inner.Plans.{GoesThrough, IsRuled, IsWholePlan, ReadsBytes, ReadsFleet};
 ghost use Rattle.kr_cmd_fleet.specs.inner.Plans.{fleet_in_result, named, plan_in, plan_of, script_stop};
@@ -43,7 +43,7 @@ pub fn load_plan<W: World>(
     options: &Options,
     world: &mut W,
 ) -> Result<LoadedFleet, Stop>
-    ensures does { (a : Around) → Does (planning name.now options.now)
+    ensures does { (a : Environment) → Does (planning name.now options.now)
         (with_world (W.told world.old) a) (with_world (W.told world.new) a) (plan_in result) }
     ensures whole { IfOk result (λ plan. IsWholePlan (plan_of plan)) }
     ensures links { (W.told world.new).links ≡ (W.told world.old).links }
@@ -78,7 +78,7 @@ pub fn load_plan<W: World>(
 
 /// The fleet in a file.
 fn load_fleet<W: World>(alloc: Global, world: &mut W, name: &str) -> Result<Script, Stop>
-    ensures does { (a : Around) → Does (fleet_in name.now) (with_world (W.told world.old) a)
+    ensures does { (a : Environment) → Does (fleet_in name.now) (with_world (W.told world.old) a)
         (with_world (W.told world.new) a) (fleet_in_result result) }
     ensures links { (W.told world.new).links ≡ (W.told world.old).links }
     ensures rules { IfOk result (λ script. IsRuled (fleet_of script)) }
@@ -300,7 +300,8 @@ fn load_once<W: World>(
 /// The program of each plugin that the configurations name, in the order of the names' bytes. The
 /// first name for which the options give no program is refused.
 fn file_programs(alloc: Global, options: &Options, files: &[SettingsFile]) -> Result<Programs, Stop>
-    ensures does { (a : Around) → Does (file_programs options.now (named files.now)) a a result }
+    ensures does { (a : Environment) → Does (file_programs options.now (named files.now)) a a
+        result }
     ensures names { IfOk result (λ programs. map (λ program. program.plugin) programs
         ≡ plugin_order (all_rows (named files.now))) }
 {

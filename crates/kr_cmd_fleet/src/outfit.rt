@@ -1,7 +1,7 @@
 //! What a worker has of the world: a random source, and a link to each plugin.
 ghost use Rattle.std.specs.Prelude.{◌≡◌, ◌<◌, ◌≤◌, ◌^◌, All, IfOk, OnOk, [], length};
 ghost use Rattle.kr_provider.specs.Names.{names_of};
-ghost use Rattle.kr_cmd_steps.specs.Around.{Around, with_world};
+ghost use Rattle.kr_cmd_steps.specs.Environment.{Environment, with_world};
 ghost use Rattle.kr_cmd_fleet.specs.Fleets.{equipping};
 ghost use Rattle.kr_cmd_fleet.specs.StartExchanges.{AreOfSeats};
 ghost use Rattle.kr_cmd_steps.specs.Steps.{give};
@@ -39,7 +39,8 @@ pub fn open_outfits<W: World>(
 ) -> Result<(), Stop>
     requires none { outfits.old.0 ≡ [] }
     requires programs { ArePlugins programs.now }
-    ensures does { (tapes : Tapes) (a : Around) → Does (equipping programs.now 0 seats (give tt))
+    ensures does { (tapes : Tapes) (a : Environment)
+        → Does (equipping programs.now 0 seats (give tt))
         (with_world (with_tapes tapes (W.told world.old)) a)
         (with_outfits W.Link.link W.Rand.left W.Rand.count 0 outfits.new.0
         (with_world (with_tapes tapes (W.told world.new)) a)) result }
@@ -69,7 +70,7 @@ pub fn open_outfits<W: World>(
 pub fn close_outfits<W: World>(world: &mut W, outfits: List<Outfit<W::Link, W::Rand>>)
     requires out { AreBorrowed W.Link.link outfits.0 (W.told world.old) }
     requires few { length outfits.0 < 2 ^ 32 }
-    ensures back { (tapes : Tapes) (a : Around)
+    ensures back { (tapes : Tapes) (a : Environment)
         → with_outfits W.Link.link W.Rand.left W.Rand.count 0 outfits.0
         (with_world (with_tapes tapes (W.told world.old)) a)
         ≡ with_world (with_tapes tapes (W.told world.new)) a }

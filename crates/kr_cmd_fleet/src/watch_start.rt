@@ -14,7 +14,7 @@ ghost use Rattle.kr_cmd_fleet.specs.inner.Outfits.{AreLater, links_of, with_outf
 ghost use Rattle.kr_cmd_fleet.specs.inner.Readings.{AreReadOf, HasFirst, IsReadEnd, IsReadable};
 ghost use Rattle.kr_cmd_fleet.specs.inner.Readings.{KnowsItems, NamesALink, ReadsAll, ReadsRow};
 ghost use Rattle.kr_cmd_fleet.specs.inner.Readings.{first_in, items_in, read_in};
-ghost use Rattle.kr_cmd_steps.specs.Around.{Around, with_exchanges};
+ghost use Rattle.kr_cmd_steps.specs.Environment.{Environment, with_exchanges};
 ghost use Rattle.kr_cmd_steps.specs.ValueSteps.{none_kept};
 ghost use Rattle.kr_cmd_steps.specs.inner.Phases.{Does};
 ghost use Rattle.kr_cmd_steps.specs.inner.Tapes.{walk_path};
@@ -78,7 +78,7 @@ pub(crate) fn read_first<T: Tape, L: Kms, D: Dice>(
     requires links { HasFirst L.link outfits.0 replicas.now }
     ensures does { (es : Exchanges)
         × AsksFirst L.step es (links_of outfits.0) (links_of result.1.0)
-        × ((a : Around) → Does (watching watched store.now.rows replicas.now)
+        × ((a : Environment) → Does (watching watched store.now.rows replicas.now)
         (with_outfits L.link D.left D.count 0 outfits.0 a)
         (with_outfits L.link D.left D.count 0 result.1.0 (with_exchanges es a)) (read_in result.0))
         × IfOk result.0 (λ start.
@@ -164,7 +164,7 @@ fn read_start_rows<L: Kms, D: Dice>(
 ) -> (Result<List<Item>, Stop>, Outfit<L, D>)
     requires links { HasLinks (plugin_names L.link outfit.links) published.now.rows }
     requires rules { All IsReadable rows.now }
-    ensures does { Talk (Among L.step) outfit.links result.1.links (λ es. ((a : Around)
+    ensures does { Talk (Among L.step) outfit.links result.1.links (λ es. ((a : Environment)
         → Does (reading_rows published.now rows.now [] none_kept)
         (with_first L.link outfit.links (D.left outfit.dice) (D.count outfit.dice) a)
         (with_first L.link result.1.links (D.left outfit.dice) (D.count outfit.dice)

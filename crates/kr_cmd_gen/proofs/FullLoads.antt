@@ -41,7 +41,7 @@ use Rattle.kr_workers.specs.Endings.{status_of}
 use Rattle.kr_workers.specs.declared.ending.Ending.{Ending}
 use Rattle.kr_workers.specs.declared.ending.Ending.TheVariants as ending
 use Rattle.kr_workers.specs.declared.worker.Worker as fleet_worker
-use Rattle.kr_cmd_steps.specs.Around.{Around, faults_at, left_of}
+use Rattle.kr_cmd_steps.specs.Environment.{Environment, faults_at, step_state}
 use Rattle.kr_cmd_fleet.specs.Causes.{NoneRose}
 use Rattle.kr_cmd_steps.specs.Phases.{by_result, with_memory}
 use Rattle.kr_cmd_fleet.specs.FleetFiles.{FleetPlan}
@@ -53,7 +53,7 @@ use Rattle.kr_cmd_steps.specs.Judgements.{start_refusal}
 use Rattle.kr_cmd_messages.specs.Message.{status_of as stop_status}
 use Rattle.kr_cmd_steps.specs.Ran.{WroteNothing}
 use Rattle.kr_cmd_messages.specs.Receipts.{Receipt}
-use Rattle.kr_cmd_steps.specs.Steps.{Left, and_then, give, gives, or_empty, awaits, refuses, tapes_with, Call, drawing, scanning, settling}
+use Rattle.kr_cmd_steps.specs.Steps.{StepState, and_then, give, gives, or_empty, awaits, refuses, tapes_with, Call, drawing, scanning, settling}
 use Rattle.kr_cmd_steps.specs.StoreFiles.{IsStored, Stored}
 use Rattle.kr_cmd_messages.specs.declared.load_words.LoadWords.{LoadWords}
 use Rattle.kr_cmd_steps.specs.declared.programs.Program.{Program}
@@ -144,12 +144,12 @@ within_journal seed size paths small =
 
 -- ---- the steps
 
-abbrev BeginsBlank : Begun → Left → Type 0
+abbrev BeginsBlank : Begun → StepState → Type 0
 BeginsBlank begun left = begun.stored.rows ≡ []
 
 module _ (words : LoadWords) (small : words.size ≤ 10000) (stored : Stored)
     (empty : stored.rows ≡ []) where
-  starts_blank : (budgets : List ℕ) (replicas : Replicas) (left : Left)
+  starts_blank : (budgets : List ℕ) (replicas : Replicas) (left : StepState)
       → settings_of replicas
       ≡ Some (opening_rows words.seed) ∷ (Some (opening_rows words.seed) ∷ [])
       → GivesOnly BeginsBlank (starting_with false (load_plan words) stored budgets replicas) left
@@ -167,11 +167,11 @@ module _ (words : LoadWords) (small : words.size ≤ 10000) (stored : Stored)
       by (Err why) is = absurd (no_refusal words.seed replicas why settings
           (subst (λ rows. IsStart rows replicas (Err why)) empty is))
 
-  launches_blank : (budgets : List ℕ) (left : Left)
+  launches_blank : (budgets : List ℕ) (left : StepState)
       → GivesOnly BeginsBlank (launching false (load_plan words) stored budgets) left
   launches_blank budgets left = λ u t v s x y. starts_blank budgets _ left refl
 
-  begins_blank : (left : Left)
+  begins_blank : (left : StepState)
       → GivesOnly BeginsBlank (load_beginning (load_plan words) stored) left
   begins_blank left = by
     where
@@ -185,13 +185,13 @@ module _ (words : LoadWords) (small : words.size ≤ 10000) (stored : Stored)
           (count + put_lines (parts_of (load_plan words).fleet)) small in
           let same = ap sum are in absurd (omega (arith, few, many, same))
 
-  known_blank : (r : Result Stored Refusal) (left : Left) → Ok stored ≡ r
+  known_blank : (r : Result Stored Refusal) (left : StepState) → Ok stored ≡ r
       → GivesOnly BeginsBlank (and_then (by_result r) (load_beginning (load_plan words))) left
   known_blank r left e = subst (λ k. GivesOnly BeginsBlank
       (and_then (by_result k) (load_beginning (load_plan words))) left) e (begins_blank left)
 
-walks_blank : (words : LoadWords) → words.size ≤ 10000 → (old : Around) → IsBlank words old
-    → GivesOnly BeginsBlank (load_steps words) (left_of (with_streams words.seed old))
+walks_blank : (words : LoadWords) → words.size ≤ 10000 → (old : Environment) → IsBlank words old
+    → GivesOnly BeginsBlank (load_steps words) (step_state (with_streams words.seed old))
 walks_blank words small old (stored, (file, told, holds), empty) = (
   refl,
   λ bytes agrees r is.
@@ -209,7 +209,7 @@ walks_blank words small old (stored, (file, told, holds), empty) = (
 -- they are those of the load
 pub load_run : (T : Type 0) → {L : Type 0} → (link : L → Link)
     (step : L → Exchange → L → Type 0)
-    (words : LoadWords) (sources : List StreamState) (old new : Around) (output : Receipt)
+    (words : LoadWords) (sources : List StreamState) (old new : Environment) (output : Receipt)
     (result : Result Ending Stop)
     → (s : StartsLoad T link step words sources old new output result)
     → IsLoadRun link step left_in link_faults words.seed words.size s.runs.files s.history
@@ -225,7 +225,7 @@ load_run T link step words sources old new output result s = record {
 -- so each put that was done has its row
 pub keeps_puts : (T : Type 0) → {L : Type 0} → (link : L → Link)
     (step : L → Exchange → L → Type 0)
-    (words : LoadWords) (sources : List StreamState) (old new : Around) (output : Receipt)
+    (words : LoadWords) (sources : List StreamState) (old new : Environment) (output : Receipt)
     (result : Result Ending Stop)
     → (s : StartsLoad T link step words sources old new output result)
     → KeepsPuts T link step words sources old new output result s
@@ -263,7 +263,7 @@ told_so told source is dice keeps = subst (λ t. Keeps dice t) (sym is) keeps
 
 module _ (T : Type 0) {L : Type 0} (link : L → Link)
     (step : L → Exchange → L → Type 0) (words : LoadWords) (sources : List StreamState)
-    (old new : Around) (output : Receipt) (result : Result Ending Stop)
+    (old new : Environment) (output : Receipt) (result : Result Ending Stop)
     (s : StartsLoad T link step words sources old new output result) where
   -- a worker's source
   pub source_whole : (number : ℕ) (before : fleet_worker.Worker T L StreamState) → number < 4
@@ -274,7 +274,7 @@ module _ (T : Type 0) {L : Type 0} (link : L → Link)
       (slice_get_within s.runs.workers number before is) in
       let own = get_or_from_slice_get s.runs.workers number before before is in
       let undrawn = (load_undrawn words (gives s.begun) s.reaches.end
-      (left_of (with_streams words.seed old)) s.reaches.goes).1 in
+      (step_state (with_streams words.seed old)) s.reaches.goes).1 in
       whole_told words.seed old number few before.bench.dice.left
       (subst (λ (dice : ℕ → Option (List ℕ)). Keeps (dice number) (Some before.bench.dice.left))
       undrawn
@@ -311,13 +311,13 @@ module _ (T : Type 0) {L : Type 0} (link : L → Link)
 
 module _ (T : Type 0) {L : Type 0} (link : L → Link)
     (step : L → Exchange → L → Type 0) (words : LoadWords) (sources : List StreamState)
-    (old new : Around) (output errors : Receipt) (small : words.size ≤ 10000)
+    (old new : Environment) (output errors : Receipt) (small : words.size ≤ 10000)
     (blank : IsBlank words old)
     (none : NoneRose old new output errors) where
-  abbrev Began : Around
+  abbrev Began : Environment
   Began = with_streams words.seed old
 
-  abbrev Ended : Around
+  abbrev Ended : Environment
   Ended = with_sources sources new
 
   -- so none rose with the workers' sources among the world's, but perhaps theirs
@@ -329,7 +329,7 @@ module _ (T : Type 0) {L : Type 0} (link : L → Link)
       (s : StartsLoad T link step words sources old new output result) where
     rows_none : s.begun.stored.rows ≡ []
     rows_none = allowed BeginsBlank (gives s.begun) s.reaches.end (load_steps words)
-        (left_of (with_streams words.seed old)) (walks_blank words small old blank) s.reaches.goes
+        (step_state (with_streams words.seed old)) (walks_blank words small old blank) s.reaches.goes
 
     no_programs : s.begun.plan.programs ≡ []
     no_programs = ap (λ (p : FleetPlan). p.programs) s.plan_is
@@ -411,9 +411,9 @@ module _ (T : Type 0) {L : Type 0} (link : L → Link)
   stopped_so status (Words why) is (inl (inl ends, idle)) = absurd ends
   stopped_so status (Refused why) is (inl (inl ends, idle)) =
       absurd (allowed BeginsBlank (refuses why) ends.end (load_steps words)
-      (left_of (with_streams words.seed old)) (walks_blank words small old blank) ends.goes)
+      (step_state (with_streams words.seed old)) (walks_blank words small old blank) ends.goes)
   stopped_so status (Fault object n) is (inl (inl (call, reaches, fault), idle)) =
-      absurd (calls call (load_undrawn words (awaits call) reaches.end (left_of Began)
+      absurd (calls call (load_undrawn words (awaits call) reaches.end (step_state Began)
       reaches.goes).0 fault.1)
   stopped_so status (Fault object n) is
       (inl (inr (inr (mid, begun, reaches, fails, home)), idle)) =
@@ -436,7 +436,7 @@ module _ (T : Type 0) {L : Type 0} (link : L → Link)
   by_result_so status (Err stop) did (inr tells) = absurd (none.told tells.1)
 
 pub full_load : (T : Type 0) → {L : Type 0} → (link : L → Link)
-    (step : L → Exchange → L → Type 0) (words : LoadWords) (old new : Around)
+    (step : L → Exchange → L → Type 0) (words : LoadWords) (old new : Environment)
     (output errors : Receipt) → words.size ≤ 10000 → IsBlank words old
     → NoneRose old new output errors → (status : ℕ)
     → RanLoad T link step words old new output errors status

@@ -15,7 +15,7 @@ use Rattle.kr_kms.specs.declared.world.Access.{Access}
 use Rattle.kr_kms.specs.declared.world.Access.TheVariants.{ToMake}
 use Rattle.kr_provider.specs.Names.{names_of}
 use Rattle.kr_workload.specs.Streams.{StreamState, link_faults, left_in, worker_dice}
-use Rattle.kr_cmd_steps.specs.Around.{Around, IsHome, with_world}
+use Rattle.kr_cmd_steps.specs.Environment.{Environment, IsHome, with_world}
 use Rattle.kr_cmd_steps.specs.Phases.{tape_for}
 use Rattle.kr_cmd_fleet.specs.FleetFiles.{FleetPlan}
 use Rattle.kr_cmd_fleet.specs.Fleets.{Begun}
@@ -34,7 +34,7 @@ use Rattle.kr_cmd_steps.specs.inner.Phases.{AskedUnless}
 use Rattle.kr_cmd_steps.specs.inner.Tapes.{LentTape, NoTape, ReturnedTape, ReturnsSettled, with_settled}
 use Rattle.kr_cmd_fleet.specs.inner.Workings.{Outfits}
 use Rattle.kr_cmd_fleet.proofs.SettledRuns.{over_settled}
-use Rattle.kr_cmd_steps.proofs.Goes.{home_refl, reach}
+use Rattle.kr_cmd_steps.proofs.RunTo.{home_refl, reach}
 use Rattle.kr_cmd_steps.proofs.Lending.{home_same}
 use Rattle.kr_cmd_fleet.proofs.Outfits.{later_named}
 use Rattle.kr_cmd_steps.proofs.Tapes.{not_lent}
@@ -42,7 +42,7 @@ use Rattle.kr_cmd_steps.proofs.Tapes.{not_lent}
 -- ---- outfits
 
 module _ {L : Type 0} (link : L → Link) where
-  outfits_seeded : (seat : ℕ) (outfits : Outfits L StreamState) → AreBare outfits → (a : Around)
+  outfits_seeded : (seat : ℕ) (outfits : Outfits L StreamState) → AreBare outfits → (a : Environment)
       → with_outfits link left_in link_faults seat outfits a
       ≡ with_world (record a.world {
         dice = lent_sources seat (sources_in outfits) a.world.dice;
@@ -58,7 +58,7 @@ module _ {L : Type 0} (link : L → Link) where
 
   -- with the store's tape
   pub crew_seeded : (name : List ℕ) (told : Option (List ℕ)) (count : ℕ)
-      (outfits : Outfits L StreamState) → AreBare outfits → (a : Around)
+      (outfits : Outfits L StreamState) → AreBare outfits → (a : Environment)
       → with_outfits link left_in link_faults 0 outfits (with_lent_tape name told count a)
       ≡ with_lent_tape name told count (with_sources (sources_in outfits) a)
   crew_seeded name told count outfits bare a =
@@ -180,11 +180,11 @@ settled_seeded sources old new name back n (Err why) result (same, returned) =
 
 module _ (T : Type 0) {L : Type 0} (link : L → Link)
     (step : L → Exchange → L → Type 0) (seed : ℕ) (store : List ℕ) (plan : FleetPlan) where
-  abbrev Settles : Steps Begun → (old new : Around) → Result Record Stop → Type 0
+  abbrev Settles : Steps Begun → (old new : Environment) → Result Record Stop → Type 0
   Settles steps old new result = SettlesLoad T link step seed steps store plan old new result
 
   -- memory lacked before anything was asked for
-  pub load_lacks : (a : Around) → Settles (load_over store plan) a a (Err NoMemory)
+  pub load_lacks : (a : Environment) → Settles (load_over store plan) a a (Err NoMemory)
   load_lacks a = (
     streams_of seed,
     inl (record {
@@ -193,7 +193,7 @@ module _ (T : Type 0) {L : Type 0} (link : L → Link)
     }),
   )
 
-  module _ {old out : Outside} (steps : Steps Begun) (a : Around) where
+  module _ {old out : Outside} (steps : Steps Begun) (a : Environment) where
     -- no tape was handed out
     pub load_untaped : (stop : Stop) → KeepsFiles old out → KeepsObjects old out
         → NoTape old out store ToMake stop
@@ -247,7 +247,7 @@ others_stay new back n (Err why) result h (same, returned) =
     record { dice = returned.dice ∙ h.dice; links = returned.links ∙ h.links }
 
 -- so all is home that was so as the sources stood among it
-pub home_unseeded : (seed : ℕ) (sources : List StreamState) (old new : Around)
+pub home_unseeded : (seed : ℕ) (sources : List StreamState) (old new : Environment)
     → LeavesOthers old.world new.world
     → IsHome (with_streams seed old) (with_sources sources new) → IsHome old new
 home_unseeded seed sources old new others h = record {

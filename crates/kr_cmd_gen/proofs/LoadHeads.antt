@@ -13,7 +13,7 @@ use Rattle.kr_cmd_messages.specs.Receipts.{Receipt}
 use Rattle.kr_cmd_messages.specs.declared.load_words.LoadWords.{LoadWords}
 use Rattle.kr_cmd_messages.specs.declared.refusal.Stop.{Stop}
 use Rattle.kr_cmd_messages.specs.declared.refusal.Stop.TheVariants.{Fault, NoMemory}
-use Rattle.kr_cmd_steps.specs.Around.{Around}
+use Rattle.kr_cmd_steps.specs.Environment.{Environment}
 use Rattle.kr_cmd_fleet.specs.Fleets.{StopsBefore, TellsFleet, settled_behind}
 use Rattle.kr_cmd_laws.specs.RunHeadlines.{StartsNobody}
 use Rattle.kr_cmd_laws.proofs.RunHeads.{tells_output, workers_headline}
@@ -41,7 +41,7 @@ prints words workers replies output errors status (Err other) w t = absurd w
 
 module _ (T : Type 0) {L : Type 0} (link : L → Link)
     (step : L → Exchange → L → Type 0) (words : LoadWords) (sources : List StreamState)
-    (old new : Around) (output errors : Receipt) (status : ℕ) where
+    (old new : Environment) (output errors : Receipt) (status : ℕ) where
   started : (result : Result Ending Stop)
       → StartsLoad T link step words sources old new output result
       → TellsFleet result errors status

@@ -4,7 +4,7 @@ use Rattle.kr_kms.specs.Calls.{Link}
 use Rattle.kr_kms.specs.Exchanges.{Exchange}
 use Rattle.kr_workers.specs.declared.ending.Ending.{Ending}
 use Rattle.kr_workload.specs.Streams.{StreamState, link_faults, left_in}
-use Rattle.kr_cmd_steps.specs.Around.{Around}
+use Rattle.kr_cmd_steps.specs.Environment.{Environment}
 use Rattle.kr_cmd_gen.specs.GeneratedLoads.{RanLoad, load_steps, with_sources, with_streams}
 use Rattle.kr_cmd_gen.specs.LoadReadings.{HasStarted, LoadReadings, TellsTape}
 use Rattle.kr_cmd_messages.specs.Receipts.{Receipt}
@@ -17,7 +17,7 @@ use Rattle.kr_cmd_gen.proofs.LoadSettled.{settled_load}
 
 module _ (T : Type 0) {L : Type 0} (link : L → Link)
     (step : L → Exchange → L → Type 0) (words : LoadWords)
-    (old new : Around) (output errors : Receipt) where
+    (old new : Environment) (output errors : Receipt) where
   abbrev Began : List StreamState → Result Ending Stop → Type 0
   Began sources result = HasStarted T link step words old new output errors sources result
 

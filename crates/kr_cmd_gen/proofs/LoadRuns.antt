@@ -6,7 +6,7 @@ use Rattle.kr_kms.specs.Exchanges.{Exchange}
 use Rattle.kr_workers.specs.declared.ending.Ending.{Ending}
 use Rattle.kr_workload.specs.Streams.{StreamState, left_in, link_faults}
 use Rattle.kr_workers.specs.declared.worker.Worker as fleet_worker
-use Rattle.kr_cmd_steps.specs.Around.{Around, IsHome, left_of}
+use Rattle.kr_cmd_steps.specs.Environment.{Environment, IsHome, step_state}
 use Rattle.kr_cmd_fleet.specs.FleetFiles.{FleetPlan}
 use Rattle.kr_cmd_fleet.specs.Fleets.{Begun, StopsBefore}
 use Rattle.kr_cmd_gen.specs.GeneratedLoads.{DidLoad, LeavesOthers, StartsLoad, WritesLoad, load_over, load_plan, load_steps, streams_of, with_sources, with_streams}
@@ -19,12 +19,12 @@ use Rattle.kr_cmd_messages.specs.declared.refusal.Stop.TheVariants.{NoMemory}
 use Rattle.kr_cmd_gen.specs.inner.LoadOutcomes.{SettlesLoad}
 use Rattle.kr_cmd_steps.specs.inner.Phases.{Does}
 use Rattle.kr_cmd_gen.proofs.Generating.{home_unseeded}
-use Rattle.kr_cmd_steps.proofs.Goes.{home_refl, reach, stays_refl}
+use Rattle.kr_cmd_steps.proofs.RunTo.{home_refl, reach, stays_refl}
 
 module _ (T : Type 0) {L : Type 0} (link : L → Link)
     (step : L → Exchange → L → Type 0) where
   -- memory lacked before anything was done
-  pub unbegun : (asked : LoadWords) (a : Around) (output : Receipt) → WroteNothing output
+  pub unbegun : (asked : LoadWords) (a : Environment) (output : Receipt) → WroteNothing output
       → DidLoad T link step asked a a output (Err NoMemory)
   unbegun asked a output idle = record {
     home = home_refl a;
@@ -32,19 +32,19 @@ module _ (T : Type 0) {L : Type 0} (link : L → Link)
     sources = streams_of asked.seed;
     seated = home_refl (with_streams asked.seed a);
     did = inl (
-      inl (inr (reach (left_of (with_streams asked.seed a)) (inl (refl, refl))
+      inl (inr (reach (step_state (with_streams asked.seed a)) (inl (refl, refl))
           (stays_refl (with_streams asked.seed a)))),
       idle,
     );
   }
 
   module _ (asked : LoadWords) (plan : FleetPlan) (is : plan ≡ load_plan asked)
-      (old new : Around) where
-    abbrev Began : Around
+      (old new : Environment) where
+    abbrev Began : Environment
     Began = with_streams asked.seed old
 
     -- steps of the plan are those of the load
-    does_load : {mid : Around} (result : Result Begun Stop)
+    does_load : {mid : Environment} (result : Result Begun Stop)
         → Does (load_over asked.store plan) Began mid result → Does (load_steps asked) Began mid
         result
     does_load {mid} result d = subst (λ p. Does (load_over asked.store p) Began mid result) is d
@@ -70,18 +70,18 @@ module _ (T : Type 0) {L : Type 0} (link : L → Link)
         → WroteNothing output → DidLoad T link step asked old new output (Err stop)
     load_stopped stop output others (sources, inl e) idle =
         let d = does_load (Err stop) e in
-        did_so sources others d.home (inl (inl (d.ends (left_of Began) (stays_refl Began)), idle))
+        did_so sources others d.home (inl (inl (d.ends (step_state Began) (stays_refl Began)), idle))
     load_stopped stop output others (sources, inr (inl l)) idle =
         let d = does_load (Ok l.begun) l.does in did_so sources others l.home (inl (
           inr (inl (
             l.stops,
-            (l.mid, l.begun, d.ends (left_of Began) (stays_refl Began), l.none, d.home),
+            (l.mid, l.begun, d.ends (step_state Began) (stays_refl Began), l.none, d.home),
           )),
           idle,
         ))
     load_stopped stop output others (sources, inr (inr l)) idle =
         let d = does_load (Ok l.begun) l.does in did_so sources others l.home (inl (
-          inr (inr (l.mid, l.begun, d.ends (left_of Began) (stays_refl Began), l.fails, d.home)),
+          inr (inr (l.mid, l.begun, d.ends (step_state Began) (stays_refl Began), l.fails, d.home)),
           idle,
         ))
 
@@ -101,7 +101,7 @@ module _ (T : Type 0) {L : Type 0} (link : L → Link)
           begun = l.begun;
           plan_is = l.plan_is ∙ is;
           mid = l.mid;
-          reaches = d.ends (left_of Began) (stays_refl Began);
+          reaches = d.ends (step_state Began) (stays_refl Began);
           since = d.home;
           history = l.history;
           ended = l.ended;

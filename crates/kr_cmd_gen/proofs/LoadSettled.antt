@@ -5,12 +5,12 @@ use Rattle.kr_config.specs.Kept.{ConfigEntry, plugins_in}
 use Rattle.kr_workload.specs.Loads.{configurations}
 use Rattle.kr_provider.specs.PluginOrder.{plugin_order}
 use Rattle.kr_provider.proofs.PluginOrder.{order_has}
-use Rattle.kr_cmd_steps.specs.Around.{Around, left_of}
+use Rattle.kr_cmd_steps.specs.Environment.{Environment, step_state}
 use Rattle.kr_cmd_fleet.specs.FleetFiles.{file_entries}
 use Rattle.kr_cmd_fleet.specs.Fleets.{launching, parts_of, publishing, starting_with}
 use Rattle.kr_cmd_gen.specs.GeneratedLoads.{load_beginning, load_plan, load_steps, with_streams}
 use Rattle.kr_cmd_gen.specs.LoadReadings.{TellsTape}
-use Rattle.kr_cmd_steps.specs.Steps.{Left, and_then, or_empty}
+use Rattle.kr_cmd_steps.specs.Steps.{StepState, and_then, or_empty}
 use Rattle.kr_cmd_steps.specs.StoreFiles.{Stored}
 use Rattle.kr_cmd_messages.specs.declared.load_words.LoadWords.{LoadWords}
 use Rattle.kr_cmd_laws.proofs.FleetSettled.{one_within, settled_publishing, settled_start}
@@ -30,8 +30,8 @@ names_none seed name rows is plugin c =
     ((order_has (plugins_in rows) plugin).0 c) in
     absurd (let below : among.0 < 0 = among.1 in omega (arith, below))
 
-module _ (words : LoadWords) (old : Around) where
-  settled_outfits : (stored : Stored) (budgets : List ℕ) (l r : Left)
+module _ (words : LoadWords) (old : Environment) where
+  settled_outfits : (stored : Stored) (budgets : List ℕ) (l r : StepState)
       → r.links ≡ l.links
       → IsSettled (and_then (launching false (load_plan words) stored budgets) closing)
       (and_then (launching false (load_plan words) stored budgets) closing) l r
@@ -47,7 +47,7 @@ module _ (words : LoadWords) (old : Around) where
       r refl x refl)
 
   pub settled_load : TellsTape words old
-      → GoOneWay (and_then (load_steps words) closing) (left_of (with_streams words.seed old))
+      → GoOneWay (and_then (load_steps words) closing) (step_state (with_streams words.seed old))
   settled_load there = (
     there,
     refl,

@@ -4,9 +4,9 @@ use Rattle.std.specs.Prelude.{length, ⊤}
 use Rattle.std.specs.Io.KnownBytes.{Keeps}
 use Rattle.kr_workload.specs.Streams.{stream_key}
 use Rattle.kr_workload.proofs.Streaming.{rest_long}
-use Rattle.kr_cmd_steps.specs.Around.{Around, left_of}
+use Rattle.kr_cmd_steps.specs.Environment.{Environment, step_state}
 use Rattle.kr_cmd_steps.specs.Phases.{by_result, with_memory}
-use Rattle.kr_cmd_steps.specs.Steps.{Steps, borrow_tape, read_tape, find, refuse, give, and_then, Call, lending, scanning, drawing, Point, awaits, amid, refuses, gives, Left, Goes}
+use Rattle.kr_cmd_steps.specs.Steps.{Steps, borrow_tape, read_tape, find, refuse, give, and_then, Call, lending, scanning, drawing, Point, awaits, amid, refuses, gives, StepState, RunTo}
 use Rattle.kr_cmd_steps.specs.StoreFiles.{Stored}
 use Rattle.kr_cmd_fleet.specs.Fleets.{Begun, IsStart, Replicas, launching, starting_with}
 use Rattle.kr_cmd_gen.specs.GeneratedLoads.{load_beginning, load_plan, load_steps, with_streams}
@@ -33,18 +33,18 @@ EndsUndrawn (awaits call) = IsNoDraw call
 EndsUndrawn point = ⊤
 
 -- they end at no draw, and leave what the random sources tell
-abbrev IsUndrawn : {A : Type 0} → Point A → (end left : Left) → Type 0
+abbrev IsUndrawn : {A : Type 0} → Point A → (end left : StepState) → Type 0
 IsUndrawn point end left = EndsUndrawn point × (end.dice ≡ left.dice)
 
-module _ {A : Type 0} (point : Point A) (end : Left) where
-  at : (here : Point A) (left : Left) → EndsUndrawn here → (point ≡ here) × (end ≡ left)
+module _ {A : Type 0} (point : Point A) (end : StepState) where
+  at : (here : Point A) (left : StepState) → EndsUndrawn here → (point ≡ here) × (end ≡ left)
       → IsUndrawn point end left
   at here left ends e = (
     subst (λ (p : Point A). EndsUndrawn p) (sym e.0) ends,
-    ap (λ (l : Left). l.dice) e.1,
+    ap (λ (l : StepState). l.dice) e.1,
   )
 
-  undrawn : (s : Steps A) (left : Left) → UseTapes s → Goes point end s left
+  undrawn : (s : Steps A) (left : StepState) → UseTapes s → RunTo point end s left
       → IsUndrawn point end left
   undrawn (borrow_tape name access absent next) left uses (inl e) = at amid _ tt e
   undrawn (borrow_tape name access absent next) left uses (inr (inl e)) =
@@ -95,14 +95,14 @@ module _ (words : LoadWords) where
   stored_first (Ok stored) = λ r is. budgets_first stored r
   stored_first (Err why) = tt
 
-  pub load_undrawn : (point : Point Begun) (end left : Left)
-      → Goes point end (load_steps words) left → IsUndrawn point end left
+  pub load_undrawn : (point : Point Begun) (end left : StepState)
+      → RunTo point end (load_steps words) left → IsUndrawn point end left
   load_undrawn point end left goes =
       undrawn point end (load_steps words) left (λ bytes r is. stored_first r) goes
 
 -- so each worker begins with the whole of its stream
-pub whole_told : (seed : ℕ) (a : Around) (seat : ℕ) → seat < 4 → (left : List ℕ)
-    → Keeps ((left_of (with_streams seed a)).dice seat) (Some left) → length left ≡ 2 ^ 70
+pub whole_told : (seed : ℕ) (a : Environment) (seat : ℕ) → seat < 4 → (left : List ℕ)
+    → Keeps ((step_state (with_streams seed a)).dice seat) (Some left) → length left ≡ 2 ^ 70
 whole_told seed a zero few left is = ap length is ∙ rest_long (stream_key seed 1) 0
 whole_told seed a (suc zero) few left is = ap length is ∙ rest_long (stream_key seed 2) 0
 whole_told seed a (suc (suc zero)) few left is = ap length is ∙ rest_long (stream_key seed 3) 0

@@ -13,14 +13,14 @@ use Rattle.kr_headline.proofs.CalmBenches.{never_failed}
 use Rattle.kr_headline.proofs.Seats.{first_in}
 use Rattle.kr_cmd_messages.specs.Receipts.{Receipt}
 use Rattle.kr_cmd_messages.specs.declared.load_words.LoadWords.{LoadWords}
-use Rattle.kr_cmd_steps.specs.Around.{Around}
+use Rattle.kr_cmd_steps.specs.Environment.{Environment}
 use Rattle.kr_cmd_gen.specs.LoadHeadlines.{StartsLoadWorkers}
 use Rattle.kr_cmd_gen.specs.WrongLoads.{EachLoadIsWrong, WrongLoads}
 use Rattle.kr_cmd_gen.specs.WrongLoads as wrong
 
 module _ (T : Type 0) {L : Type 0} (link : L → Link)
     (step : L → Exchange → L → Type 0) (words : LoadWords)
-    (old new : Around) (output errors : Receipt) (status : ℕ) (small : words.size ≤ 10000)
+    (old new : Environment) (output errors : Receipt) (status : ℕ) (small : words.size ≤ 10000)
     (sources : List StreamState)
     (s : StartsLoadWorkers T link step words old new output errors status sources) where
   abbrev run : Run

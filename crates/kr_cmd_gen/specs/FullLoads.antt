@@ -11,7 +11,7 @@ use Rattle.kr_rollout.specs.Histories.{state_of}
 use Rattle.kr_script.specs.declared.told.Told.TheVariants as told
 use Rattle.kr_workers.specs.Sentences.{Replies}
 use Rattle.kr_workers.specs.declared.ending.Ending.{Ending}
-use Rattle.kr_cmd_steps.specs.Around.{Around}
+use Rattle.kr_cmd_steps.specs.Environment.{Environment}
 use Rattle.kr_cmd_fleet.specs.FleetReady.{TellsStore}
 use Rattle.kr_cmd_fleet.specs.Fleets.{opening_of}
 use Rattle.kr_cmd_gen.specs.GeneratedLoads.{StartsLoad}
@@ -22,7 +22,7 @@ use Rattle.kr_cmd_messages.specs.declared.load_words.LoadWords.{LoadWords}
 use Rattle.kr_cmd_messages.specs.declared.refusal.Stop.{Stop}
 
 -- the store's tape is told, and holds no rows, or is absent
-abbrev pub IsBlank : LoadWords → Around → Type 0
+abbrev pub IsBlank : LoadWords → Environment → Type 0
 IsBlank words old =
     (stored : Stored) × TellsStore old words.store stored × (stored.rows ≡ [])
 
@@ -36,7 +36,7 @@ IsFullLoad words output errors status = ((status ≡ 0) × WroteNothing errors
 -- each put that a worker replied to be done has its row behind the workers, a sealing of its data
 abbrev pub KeepsPuts : (T : Type 0) → {L : Type 0} → (link : L → Link)
     (step : L → Exchange → L → Type 0)
-    → (words : LoadWords) → (sources : List StreamState) → (old new : Around)
+    → (words : LoadWords) → (sources : List StreamState) → (old new : Environment)
     → (output : Receipt) → (result : Result Ending Stop)
     → StartsLoad T link step words sources old new output result → Type 0
 KeepsPuts T link step words sources old new output result s = (worker at number revision : ℕ)

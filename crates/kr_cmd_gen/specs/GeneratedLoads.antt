@@ -16,7 +16,7 @@ use Rattle.kr_rollout.specs.declared.opening.Entry.{Entry}
 use Rattle.kr_script.specs.Fleets.{Worker}
 use Rattle.kr_workers.specs.declared.ending.Ending.{Ending}
 use Rattle.kr_workers.specs.declared.worker.Worker as fleet_worker
-use Rattle.kr_cmd_steps.specs.Around.{Around, IsHome, Reaches, left_of, with_lent, with_world}
+use Rattle.kr_cmd_steps.specs.Environment.{Environment, IsHome, StepsEndAt, step_state, with_lent, with_world}
 use Rattle.kr_cmd_steps.specs.Phases.{stored_on, tape_for}
 use Rattle.kr_cmd_fleet.specs.FleetFiles.{FleetPlan}
 use Rattle.kr_cmd_fleet.specs.Fleets.{Begun, RunsFleet, StopsBefore, TellsFleet, budgeting, launching, parts_of, settled_behind}
@@ -60,7 +60,7 @@ lent_sources seat (source ∷ sources) dice = with_lent same_seat seat (left_in 
     (link_faults source) (lent_sources (seat + 1) sources dice)
 
 -- the world, as if these sources of the load's workers were those of their seats
-abbrev pub with_sources : List StreamState → Around → Around
+abbrev pub with_sources : List StreamState → Environment → Environment
 with_sources sources a =
     with_world (record a.world { dice = lent_sources 0 sources a.world.dice }) a
 
@@ -68,7 +68,7 @@ with_sources sources a =
 abbrev pub streams_of : (seed : ℕ) → List StreamState
 streams_of seed = map (worker_dice seed) (range_with_len 0 4)
 
-abbrev pub with_streams : (seed : ℕ) → Around → Around
+abbrev pub with_streams : (seed : ℕ) → Environment → Environment
 with_streams seed a = with_sources (streams_of seed) a
 
 -- ---- once the workers were started
@@ -96,12 +96,12 @@ module _ (T : Type 0) {L : Type 0} (link : L → Link)
     (step : L → Exchange → L → Type 0) where
   -- the workers were started, and what they stored is settled. Each drew from its own stream, from
   -- its begin on, and left the rest of it in these sources
-  pub record StartsLoad (words : LoadWords) (sources : List StreamState) (old new : Around)
+  pub record StartsLoad (words : LoadWords) (sources : List StreamState) (old new : Environment)
       (output : Receipt) (result : Result Ending Stop) : Type 0 where
     pub begun : Begun
     pub plan_is : begun.plan ≡ load_plan words
-    pub mid : Around
-    pub reaches : Reaches (load_steps words) (left_of (with_streams words.seed old)) mid
+    pub mid : Environment
+    pub reaches : StepsEndAt (load_steps words) (step_state (with_streams words.seed old)) mid
         (gives begun)
     pub since : IsHome (with_streams words.seed old) mid
     pub history : List Entry
@@ -112,7 +112,7 @@ module _ (T : Type 0) {L : Type 0} (link : L → Link)
         (map (λ (w : fleet_worker.Worker T L StreamState). w.told) ended) output result
 
   -- all that was handed out is back, and the workers' sources, if there are any, are left so
-  pub record DidLoad (words : LoadWords) (old new : Around) (output : Receipt)
+  pub record DidLoad (words : LoadWords) (old new : Environment) (output : Receipt)
       (result : Result Ending Stop) : Type 0 where
     pub home : IsHome old new
     pub others : LeavesOthers old.world new.world
@@ -126,7 +126,7 @@ module _ (T : Type 0) {L : Type 0} (link : L → Link)
 -- what a call of `run` did for a load
 pub record RanLoad (T : Type 0) {L : Type 0} (link : L → Link)
     (step : L → Exchange → L → Type 0)
-    (words : LoadWords) (old new : Around) (output errors : Receipt) (status : ℕ)
+    (words : LoadWords) (old new : Environment) (output errors : Receipt) (status : ℕ)
     : Type 0 where
   pub result : Result Ending Stop
   pub did : DidLoad T link step words old new output result

@@ -18,7 +18,7 @@ use Rattle.kr_cmd_messages.specs.Receipts.{Receipt}
 use Rattle.kr_cmd_messages.specs.declared.load_words.LoadWords.{LoadWords}
 use Rattle.kr_cmd_messages.specs.declared.refusal.Object.TheVariants.{Output}
 use Rattle.kr_cmd_messages.specs.declared.refusal.Stop.TheVariants.{Fault, NoMemory}
-use Rattle.kr_cmd_steps.specs.Around.{Around, IsHome, Reaches, left_of}
+use Rattle.kr_cmd_steps.specs.Environment.{Environment, IsHome, StepsEndAt, step_state}
 use Rattle.kr_cmd_steps.specs.Ran.{WroteNothing}
 use Rattle.kr_cmd_steps.specs.Steps.{gives}
 use Rattle.kr_cmd_fleet.specs.Fleets.{Begun, settled_behind}
@@ -39,15 +39,15 @@ PrintsSummary words workers replies output errors status =
 
 module _ (T : Type 0) {L : Type 0} (link : L → Link)
     (step : L → Exchange → L → Type 0) (words : LoadWords)
-    (old new : Around) (output errors : Receipt) (status : ℕ) where
+    (old new : Environment) (output errors : Receipt) (status : ℕ) where
   -- the workers of the load that the seed and the size decide were started, each with the random
   -- source of its seat, of which these sources are what is left. These are the program's own, and
   -- of a load that can be asked for none fails: so no line tells `fault dice`
   pub record StartsLoadWorkers (sources : List StreamState) : Type 0 where
     pub begun : Begun
     pub plan_is : begun.plan ≡ load_plan words
-    pub mid : Around
-    pub reaches : Reaches (load_steps words) (left_of (with_streams words.seed old)) mid
+    pub mid : Environment
+    pub reaches : StepsEndAt (load_steps words) (step_state (with_streams words.seed old)) mid
         (gives begun)
     pub since : IsHome (with_streams words.seed old) mid
     pub history : List Entry

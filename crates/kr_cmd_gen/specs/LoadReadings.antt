@@ -4,7 +4,7 @@ use Rattle.kr_kms.specs.Calls.{Link}
 use Rattle.kr_kms.specs.Exchanges.{Exchange}
 use Rattle.kr_workers.specs.declared.ending.Ending.{Ending}
 use Rattle.kr_workload.specs.Streams.{StreamState}
-use Rattle.kr_cmd_steps.specs.Around.{Around}
+use Rattle.kr_cmd_steps.specs.Environment.{Environment}
 use Rattle.kr_cmd_fleet.specs.Causes.{Causes, NoneRose}
 use Rattle.kr_cmd_gen.specs.FullLoads.{IsBlank, IsFullLoad, KeepsPuts}
 use Rattle.kr_cmd_gen.specs.GeneratedLoads.{StartsLoad, load_steps, with_sources, with_streams}
@@ -13,12 +13,12 @@ use Rattle.kr_cmd_messages.specs.declared.load_words.LoadWords.{LoadWords}
 use Rattle.kr_cmd_messages.specs.declared.refusal.Stop.{Stop}
 
 -- the steps up to the workers go by nothing else that the world tells
-abbrev pub TellsTape : LoadWords → Around → Type 0
+abbrev pub TellsTape : LoadWords → Environment → Type 0
 TellsTape words old = IsSome (old.world.tapes.told words.store)
 
 module _ (T : Type 0) {L : Type 0} (link : L → Link)
     (step : L → Exchange → L → Type 0) (words : LoadWords)
-    (old new : Around) (output errors : Receipt) where
+    (old new : Environment) (output errors : Receipt) where
   abbrev pub HasStarted : List StreamState → Result Ending Stop → Type 0
   HasStarted sources result = StartsLoad T link step words sources old new output result
 

@@ -10,13 +10,13 @@ use Rattle.kr_headline.specs.Headline.{IsTold, Run}
 use Rattle.kr_headline.specs.Values.{sealed_values}
 use Rattle.kr_cmd_messages.specs.Receipts.{Receipt}
 use Rattle.kr_cmd_messages.specs.declared.load_words.LoadWords.{LoadWords}
-use Rattle.kr_cmd_steps.specs.Around.{Around}
+use Rattle.kr_cmd_steps.specs.Environment.{Environment}
 use Rattle.kr_cmd_fleet.specs.Fleets.{opening_of, settled_behind}
 use Rattle.kr_cmd_gen.specs.LoadHeadlines.{StartsLoadWorkers}
 
 module _ (T : Type 0) {L : Type 0} (link : L → Link)
     (step : L → Exchange → L → Type 0) (words : LoadWords)
-    (old new : Around) (output errors : Receipt) (status : ℕ) (sources : List StreamState)
+    (old new : Environment) (output errors : Receipt) (status : ℕ) (sources : List StreamState)
     (s : StartsLoadWorkers T link step words old new output errors status sources) where
   abbrev pub run : Run
   run = run_in sealed_values link step link_faults s.has.page.workers s.ended s.has.page.files
@@ -33,7 +33,7 @@ module _ (T : Type 0) {L : Type 0} (link : L → Link)
 -- so it is with each load within its limit
 abbrev pub EachLoadIsWrong : (T : Type 0) → {L : Type 0} → (L → Link)
     → (L → Exchange → L → Type 0) → Type 0
-EachLoadIsWrong T link step = (words : LoadWords) (old new : Around)
+EachLoadIsWrong T link step = (words : LoadWords) (old new : Environment)
     (output errors : Receipt) (status : ℕ) → words.size ≤ 10000 → (sources : List StreamState)
     (s : StartsLoadWorkers T link step words old new output errors status sources)
     → WrongLoads T link step words old new output errors status sources s

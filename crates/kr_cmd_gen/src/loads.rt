@@ -2,7 +2,7 @@
 //! each worker, and the summary of what its workers told.
 ghost use Rattle.std.specs.Prelude.{◌≡◌, ◌≤◌, IfOk, OnOk, [], false, length};
 ghost use Rattle.kr_workload.specs.Streams.{StreamState, link_faults, left_in};
-ghost use Rattle.kr_cmd_steps.specs.Around.{Around, IsUnheard, with_world};
+ghost use Rattle.kr_cmd_steps.specs.Environment.{Environment, IsUnheard, with_world};
 ghost use Rattle.kr_cmd_steps.specs.Phases.{stored_on};
 ghost use Rattle.kr_cmd_gen.specs.GeneratedLoads.{DidLoad, LeavesOthers, WritesLoad, load_beginning};
 ghost use Rattle.kr_cmd_gen.specs.GeneratedLoads.{load_over, load_plan, streams_of, with_sources};
@@ -38,7 +38,7 @@ pub fn load<R: Threads + Wait + Sync, W: World, O: Sink>(
     world: &mut W,
     output: &mut O,
 ) -> Result<Ending, Stop>
-    ensures did { (a : Around) → IsUnheard a
+    ensures did { (a : Environment) → IsUnheard a
         → DidLoad W.Tap W.Link.link W.Link.step words.now
         (with_world (W.told world.old) a) (with_world (W.told world.new) a)
         (receipt (O.held output.old) (O.held output.new) (O.count output.old) (O.count output.new))
@@ -78,7 +78,7 @@ fn run_load_over_store<R: Threads + Wait + Sync, W: World>(
     world: &mut W,
 ) -> Result<Record, Stop>
     requires plan { IsLoadPlan plan.now }
-    ensures runs { (a : Around) → IsUnheard a
+    ensures runs { (a : Environment) → IsUnheard a
         → SettlesLoad W.Tap W.Link.link W.Link.step words.now.seed
         (load_over words.now.store (plan_of plan.now)) words.now.store (plan_of plan.now)
         (with_world (W.told world.old) a) (with_world (W.told world.new) a) result }
@@ -116,7 +116,7 @@ fn run_load_on_tape<R: Threads + Wait + Sync, T: Tape + Send, L: Kms + Send>(
     requires plan { IsLoadPlan plan.now }
     requires four { length outfits.0 ≡ 4 }
     requires bare { AreBare outfits.0 }
-    ensures made { (name : Name) (a : Around) → IsUnheard a
+    ensures made { (name : Name) (a : Environment) → IsUnheard a
         → RunsBy T L.link L.step left_in link_faults (Anyhow T L StreamState) false
         (and_then (stored_on Object.Store name) (load_beginning (plan_of plan.now))) name
         (plan_of plan.now)

@@ -35,7 +35,7 @@ use Rattle.kr_cmd_steps.specs.Commands.{steps}
 use Rattle.kr_cmd_steps.specs.Phases.{adding, by_result, configuration, input_of, linking_programs, settled_for, silently, stored_on, tape_for, within_limit}
 use Rattle.kr_cmd_steps.specs.Plugins.{borrow_links, make_seeds, settings_programs}
 use Rattle.kr_cmd_steps.specs.RewriteSteps.{Progress, driving, nothing_done, one_rewritten, replacing, resealing, rewriting_by, rewriting_live, rewriting_on, row_anew, row_by, row_data, row_steps, starting, within_journal}
-use Rattle.kr_cmd_steps.specs.Steps.{Left, or_empty, with_dice, with_input, with_tape, with_told, Steps, load, take_input, borrow_dice, borrow_tape, read_tape, write_row, keep_rows, settle, give_back, draw, borrow_link, ask_status, wrap, unwrap, note, find, refuse, give, and_then}
+use Rattle.kr_cmd_steps.specs.Steps.{StepState, or_empty, with_dice, with_input, with_tape, with_told, Steps, load, take_input, borrow_dice, borrow_tape, read_tape, write_row, keep_rows, settle, give_back, draw, borrow_link, ask_status, wrap, unwrap, note, find, refuse, give, and_then}
 use Rattle.kr_cmd_steps.specs.StoreFiles.{Stored, none_there, with_row}
 use Rattle.kr_cmd_steps.specs.StoreSteps.{copied_into, copying, migrated_line, migrated_row, migrating_into, new_row, revision_line, sealed_into, source_on, stored_into, target_on, target_read}
 use Rattle.kr_cmd_steps.specs.ValueSteps.{bench_steps, draw_some, reading_given, value_read, value_sealed, value_with, none_kept}
@@ -43,7 +43,7 @@ use Rattle.kr_cmd_steps.specs.declared.programs.Program.{Program}
 use Rattle.kr_kms.specs.Exchanges.{Exchange}
 use Rattle.kr_kms.specs.Outside.{makes, same_name}
 use Rattle.kr_cmd_messages.specs.declared.command.Conversion.{Conversion}
-use Rattle.kr_cmd_steps.specs.Around.{left_of}
+use Rattle.kr_cmd_steps.specs.Environment.{step_state}
 use Rattle.kr_cmd_steps.specs.Telling.{IsTold}
 use Rattle.kr_cmd_laws.specs.Results.{AllIsTold}
 use Rattle.kr_cmd_laws.proofs.ReadOnly.{IsReadOnly, command_reads, seeds_read, work_reads}
@@ -198,11 +198,11 @@ some_if true a b x y = x
 some_if false a b x y = y
 
 -- files, input, the draws of seat 0, and the tapes where any may be read still
-abbrev AllTold : (Reads : Type 0) → Left → Type 0
+abbrev AllTold : (Reads : Type 0) → StepState → Type 0
 AllTold R told = ((name : List ℕ) → IsSome (told.file name)) × IsSome told.input
     × IsSome (told.dice 0) × (R → (name : List ℕ) → IsSome (told.tapes name))
 
-lent : (R : Type 0) (make : Bool) (name : List ℕ) (told : Left) → AllTold R told
+lent : (R : Type 0) (make : Bool) (name : List ℕ) (told : StepState) → AllTold R told
     → AllTold R (with_tape make name told)
 lent R false name told t = t
 lent R true name told t = (
@@ -214,7 +214,7 @@ lent R true name told t = (
 )
 
 module _ (exchanges : List Exchange) where
-  told_all : {A : Type 0} (R W : Type 0) (s : Steps A) (told : Left) → Uses R W s
+  told_all : {A : Type 0} (R W : Type 0) (s : Steps A) (told : StepState) → Uses R W s
       → AllTold R told → IsTold (Some exchanges) s told
   told_all R W (load name next) told u t =
       (t.0 name, λ file is. told_all R W (next file) told (u file) t)
@@ -489,5 +489,5 @@ each command = wider (Unit {0}) (Unit {0}) ⊥ (Unit {0}) (λ r. r) (λ e. absur
 
 pub all_is_told : AllIsTold
 all_is_told command old exchanges tells =
-    told_all exchanges (Unit {0}) (Unit {0}) (steps command) (left_of old) (each command)
+    told_all exchanges (Unit {0}) (Unit {0}) (steps command) (step_state old) (each command)
     (tells.file, tells.input, tells.dice, λ u. tells.tapes)

@@ -6,15 +6,15 @@ use Rattle.kr_kms.specs.declared.world.WorldCall.TheVariants.{File, Link, Random
 use Rattle.kr_kms.specs.declared.world.Access.{Access}
 use Rattle.kr_cmd_steps.specs.Afterwards.{IsSettledLast}
 use Rattle.kr_cmd_steps.specs.Phases.{settled_for}
-use Rattle.kr_cmd_steps.specs.Steps.{Steps, load, take_input, borrow_dice, borrow_tape, read_tape, write_row, keep_rows, settle, give_back, draw, borrow_link, ask_status, wrap, unwrap, note, find, refuse, give, and_then, Point, awaits, amid, refuses, gives, Left, Goes, loading, reading, opening, lending, scanning, writing, settling, drawing, linking, asking, with_asked, with_heard, with_input, with_told}
+use Rattle.kr_cmd_steps.specs.Steps.{Steps, load, take_input, borrow_dice, borrow_tape, read_tape, write_row, keep_rows, settle, give_back, draw, borrow_link, ask_status, wrap, unwrap, note, find, refuse, give, and_then, Point, awaits, amid, refuses, gives, StepState, RunTo, loading, reading, opening, lending, scanning, writing, settling, drawing, linking, asking, with_asked, with_heard, with_input, with_told}
 use Rattle.kr_cmd_messages.specs.declared.refusal.Object.{Object}
-use Rattle.kr_cmd_steps.proofs.Goes.{Further}
+use Rattle.kr_cmd_steps.proofs.RunTo.{Further}
 
-module _ {A B : Type 0} (others : A → Steps B) (p : Point B) (end : Left) where
-  abbrev pub Parted : Steps A → Left → Type 0
-  Parted first left = (q : Point A) × (mid : Left) × Goes q mid first left × Further p end others q mid
+module _ {A B : Type 0} (others : A → Steps B) (p : Point B) (end : StepState) where
+  abbrev pub Parted : Steps A → StepState → Type 0
+  Parted first left = (q : Point A) × (mid : StepState) × RunTo q mid first left × Further p end others q mid
 
-  pub parted : (first : Steps A) (left : Left) → Goes p end (and_then first others) left
+  pub parted : (first : Steps A) (left : StepState) → RunTo p end (and_then first others) left
       → Parted first left
   parted (load name next) left (inl at) = (amid, left, inl (refl, refl), at)
   parted (load name next) left (inr (inl at)) =
@@ -142,14 +142,14 @@ module _ {A B : Type 0} (others : A → Steps B) (p : Point B) (end : Left) wher
 -- ---- those that gave something
 
 -- the others went on
-pub went_on : {A B : Type 0} (others : A → Steps B) (x : B) (end : Left) (first : Steps A)
-    (left : Left) → Goes (gives x) end (and_then first others) left
-    → (y : A) × (mid : Left) × Goes (gives x) end (others y) mid
+pub went_on : {A B : Type 0} (others : A → Steps B) (x : B) (end : StepState) (first : Steps A)
+    (left : StepState) → RunTo (gives x) end (and_then first others) left
+    → (y : A) × (mid : StepState) × RunTo (gives x) end (others y) mid
 went_on {A} {B} others x end first left goes =
     let r = parted others (gives x) end first left goes in by_point r.0 r.1 r.3
   where
-    by_point : (q : Point A) (mid : Left) → Further (gives x) end others q mid
-        → (y : A) × (mid : Left) × Goes (gives x) end (others y) mid
+    by_point : (q : Point A) (mid : StepState) → Further (gives x) end others q mid
+        → (y : A) × (mid : StepState) × RunTo (gives x) end (others y) mid
     by_point (awaits call) mid f = absurd (let e : gives x ≡ awaits call = f.0 in cc)
     by_point amid mid f = absurd (let e : gives x ≡ amid = f.0 in cc)
     by_point (refuses why) mid f = absurd (let e : gives x ≡ refuses why = f.0 in cc)
@@ -157,7 +157,7 @@ went_on {A} {B} others x end first left goes =
 
 -- a tape that is borrowed for them was settled
 pub settled_last : {A : Type 0} (object : Object) (name : List ℕ) (access : Access) (next : Steps A)
-    (x : A) (end left : Left) → Goes (gives x) end (settled_for object name access next) left
+    (x : A) (end left : StepState) → RunTo (gives x) end (settled_for object name access next) left
     → IsSettledLast name end.asked
 settled_last object name access next x end left (inl at) =
     absurd (let e : gives x ≡ amid = at.0 in cc)
@@ -169,7 +169,7 @@ settled_last {A} object name access next x end left (inr (inr (inr (may, goes)))
     let behind = went_on (λ made. settle object name (give made)) x end next _ goes in
     by_settling behind.0 behind.1 behind.2
   where
-    by_settling : (y : A) (mid : Left) → Goes (gives x) end (settle object name (give y)) mid
+    by_settling : (y : A) (mid : StepState) → RunTo (gives x) end (settle object name (give y)) mid
         → IsSettledLast name end.asked
     by_settling y mid (inl at) =
         absurd (let e : gives x ≡ awaits (settling object name) = at.0 in cc)

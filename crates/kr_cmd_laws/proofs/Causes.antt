@@ -9,7 +9,7 @@ use Rattle.kr_kms.specs.Exchanges.{Exchange}
 use Rattle.kr_workers.specs.Endings.{status_of}
 use Rattle.kr_workers.specs.declared.ending.Ending.{Ending}
 use Rattle.kr_workers.specs.declared.ending.Ending.TheVariants as ending
-use Rattle.kr_cmd_steps.specs.Around.{Around, IsHome, left_of}
+use Rattle.kr_cmd_steps.specs.Environment.{Environment, IsHome, step_state}
 use Rattle.kr_cmd_fleet.specs.Causes.{Causes, HasEnded, HasFailed, HasRefused, IsDecidedBy, WouldBegin}
 use Rattle.kr_cmd_fleet.specs.Fleets.{Begun, StopsBefore, TellsFleet}
 use Rattle.kr_cmd_fleet.proofs.SettledRuns.{rose_unsettled}
@@ -33,7 +33,7 @@ BreaksOff output NoMemory = ⊤
 module _ (T : Type 0) {L D : Type 0} (link : L → Link)
     (step : L → Exchange → L → Type 0) (left : D → Option (List ℕ)) (count : D → ℕ)
     (steps : Steps Begun) (store : List ℕ) (HasStarted : Result Ending Stop → Type 0)
-    (old new : Around) (output errors : Receipt)
+    (old new : Environment) (output errors : Receipt)
     (begins : (e : Ending) → HasStarted (Ok e)
     → (begun : Begun) × WouldBegin steps old (gives begun))
     (breaks : (stop : Stop) → HasStarted (Err stop) → BreaksOff output stop) where
@@ -48,7 +48,7 @@ module _ (T : Type 0) {L D : Type 0} (link : L → Link)
 
   -- ---- the last step that they come to decides
 
-  module _ (settled : GoOneWay (and_then steps closing) (left_of old)) where
+  module _ (settled : GoOneWay (and_then steps closing) (step_state old)) where
     -- whatever the point is, but for a fault or want of memory
     excepted : (point : Point Begun) (status : ℕ) → (status ≡ 4) ⊎ (status ≡ 5)
         → Decided point status
@@ -61,7 +61,7 @@ module _ (T : Type 0) {L D : Type 0} (link : L → Link)
     ran_so : (point : Point Begun) (status : ℕ) (e : Ending) → WouldBegin steps old point
         → Ended e → (begun : Begun) → WouldBegin steps old (gives begun)
         → status ≡ status_of e → Decided point status
-    ran_so (refuses why) status e would s begun began is = absurd (no_other steps (left_of old)
+    ran_so (refuses why) status e would s begun began is = absurd (no_other steps (step_state old)
         settled why begun would.0 began.0 would.1 began.1)
     ran_so (gives other) status e would s begun began is = inl (e, s, is)
     ran_so (awaits call) status e would s begun began is = tt
@@ -72,11 +72,11 @@ module _ (T : Type 0) {L D : Type 0} (link : L → Link)
         → Stopped (Refused why) → status ≡ stop_status (Err (Refused why))
         → Appends errors.old errors.new (line_of (Err (Refused why))) → Decided point status
     refused_so (refuses cause) status why would (inl ends, idle) is line =
-        let same : why ≡ cause = one_refusal steps (left_of old) settled why cause ends.end would.0
+        let same : why ≡ cause = one_refusal steps (step_state old) settled why cause ends.end would.0
         ends.goes would.1 in
         subst (λ c. Decided (refuses c) status) same (inl ((ends, idle, line), is))
     refused_so (gives begun) status why would (inl ends, idle) is line = absurd (no_other steps
-        (left_of old) settled why begun ends.end would.0 ends.goes would.1)
+        (step_state old) settled why begun ends.end would.0 ends.goes would.1)
     refused_so (awaits call) status why would (inl ends, idle) is line = tt
     refused_so amid status why would (inl ends, idle) is line = tt
     refused_so point status why would (inr (inl (e, lacking)), idle) is line = absurd cc
@@ -225,7 +225,7 @@ module _ (T : Type 0) {L D : Type 0} (link : L → Link)
     by_end (Err stop) home (inr s) (inl told) = broke stop s told.0
 
   pub causes : (IsTold : Type 0)
-      → (IsTold → GoOneWay (and_then steps closing) (left_of old))
+      → (IsTold → GoOneWay (and_then steps closing) (step_state old))
       → (status : ℕ) (result : Result Ending Stop) → IsHome old new
       → StopsBefore T link step left count steps store old new output result
       ⊎ HasStarted result

@@ -17,7 +17,7 @@ use Rattle.kr_cmd_steps.specs.Phases.{by_result, silently}
 use Rattle.kr_cmd_steps.specs.StoreSteps.{copied_into, copying, migrated_line, migrated_row, migrating_into, source_on, target_on}
 use Rattle.kr_cmd_steps.specs.Commands.{migrating}
 use Rattle.kr_cmd_steps.specs.Configuration.{IsConfiguration}
-use Rattle.kr_cmd_steps.specs.Steps.{Steps, write_row, give, settle, and_then, or_empty, tapes_with, with_asked, with_tape, with_told, Point, awaits, amid, refuses, gives, Left, IsAt, Goes}
+use Rattle.kr_cmd_steps.specs.Steps.{Steps, write_row, give, settle, and_then, or_empty, tapes_with, with_asked, with_tape, with_told, Point, awaits, amid, refuses, gives, StepState, IsAt, RunTo}
 use Rattle.kr_cmd_steps.specs.StoreFiles.{BeginsWith, HoldsRows, IsStored, Stored, begins_new, unless_new, unless_there, with_row}
 use Rattle.kr_cmd_messages.specs.declared.command.Migration.{Migration}
 use Rattle.kr_cmd_messages.specs.declared.refusal.Limit.TheVariants as limit
@@ -27,7 +27,7 @@ use Rattle.kr_cmd_messages.specs.declared.refusal.Refusal.{Refusal}
 use Rattle.kr_cmd_messages.specs.declared.refusal.Refusal.TheVariants.{Limit, NotOld}
 use Rattle.kr_cmd_steps.proofs.EmptyFiles.{empty_file}
 use Rattle.kr_cmd_steps.proofs.Points.{IsAmidRows, IsShort, IsThrough, IsTorn}
-use Rattle.kr_cmd_steps.proofs.Goes.{Further}
+use Rattle.kr_cmd_steps.proofs.RunTo.{Further}
 use Rattle.kr_cmd_laws.proofs.Behind.{parted}
 use Rattle.kr_cmd_steps.proofs.Tapes.{own_name}
 
@@ -56,7 +56,7 @@ abbrev telling : (name : List ℕ) → Option (List ℕ) → (List ℕ → ToldT
 telling name told tapes = λ other. if same_name name other then option_map Some told
     else tapes other
 
-module _ (name : List ℕ) (all : List LogRow) (line : List ℕ) (p : Point Outcome) (end : Left) where
+module _ (name : List ℕ) (all : List LogRow) (line : List ℕ) (p : Point Outcome) (end : StepState) where
   told_here : (told : Option (List ℕ)) (tapes : List ℕ → ToldTape)
       → telling name told tapes name ≡ option_map Some told
   told_here told tapes =
@@ -72,12 +72,12 @@ module _ (name : List ℕ) (all : List LogRow) (line : List ℕ) (p : Point Outc
       → OthersStay name a c
   others_since h k other f = k other f ∙ h other f
 
-  ended : {old : List ℕ → ToldTape} {here : Point Outcome} {last : Left} → IsAt p end here last
+  ended : {old : List ℕ → ToldTape} {here : Point Outcome} {last : StepState} → IsAt p end here last
       → OthersStay name old last.tapes → OthersStay name old end.tapes
-  ended {old} at h = subst (λ (l : Left). OthersStay name old l.tapes) (sym at.1) h
+  ended {old} at h = subst (λ (l : StepState). OthersStay name old l.tapes) (sym at.1) h
 
   so_many : (copied rest : List LogRow) (told : Option (List ℕ)) (old : List ℕ → ToldTape)
-      {here : Point Outcome} {last : Left} → IsAt p end here last → copied ++ rest ≡ all
+      {here : Point Outcome} {last : StepState} → IsAt p end here last → copied ++ rest ≡ all
       → OthersStay name old last.tapes → last.tapes name ≡ option_map Some told
       → IsCopied name all old end.tapes
   so_many copied rest told old at parts others is_told = record {
@@ -86,15 +86,15 @@ module _ (name : List ℕ) (all : List LogRow) (line : List ℕ) (p : Point Outc
     told = told;
     others = ended at others;
     parts = parts;
-    is_told = ap (λ (l : Left). l.tapes name) at.1 ∙ is_told;
+    is_told = ap (λ (l : StepState). l.tapes name) at.1 ∙ is_told;
   }
 
   -- so many rows are there, and these are still to come
   pub copies_left : (copied rest : List LogRow) (told : Option (List ℕ))
-      (old : List ℕ → ToldTape) (left : Left) → copied ++ rest ≡ all
+      (old : List ℕ → ToldTape) (left : StepState) → copied ++ rest ≡ all
       → OthersStay name old left.tapes → left.tapes name ≡ option_map Some told
       → HoldsRows (new_store copied) told
-      → Goes p end (and_then (copying name (new_store copied) rest)
+      → RunTo p end (and_then (copying name (new_store copied) rest)
       (λ copied. give (silently line))) left
       → IsLeft name all p old end.tapes
   unfolding so_many
@@ -115,10 +115,10 @@ module _ (name : List ℕ) (all : List LogRow) (line : List ℕ) (p : Point Outc
     where
       by_limit : (large : Bool)
           → ((now : Option (List ℕ)) → HoldsRows (new_store (copied ++ row ∷ [])) now
-          → Goes p end (and_then (copying name (new_store (copied ++ row ∷ [])) rest)
+          → RunTo p end (and_then (copying name (new_store (copied ++ row ∷ [])) rest)
           (λ copied. give (silently line))) (with_told name now left)
           → IsLeft name all p old end.tapes)
-          → Goes p end (and_then (and_then (and_then
+          → RunTo p end (and_then (and_then (and_then
           (by_result (if large then Err (Limit limit.Store)
           else Ok (with_row row (new_store copied))))
           (λ grown. write_row Target name (new_store copied) row (give grown)))
@@ -172,7 +172,7 @@ empty_told None e = (None, refl, tt)
 empty_told (Some held) e = (Some [], ap Some e, (tt, inl (refl, refl, refl)))
 
 -- what a migration goes by: its configuration, the rows of its store, and an empty target
-pub record MigratesFrom (words : Migration) (left : Left) : Type 0 where
+pub record MigratesFrom (words : Migration) (left : StepState) : Type 0 where
   pub file : Option (List ℕ)
   pub rows : List ConfigEntry
   pub bytes : List ℕ
@@ -184,18 +184,18 @@ pub record MigratesFrom (words : Migration) (left : Left) : Type 0 where
   pub empty : Agrees (or_empty (left.tapes words.to)) (Some [])
 
 -- how it leaves the tapes, by where its steps come to
-pub record IsMigrated (words : Migration) (p : Point Outcome) (left : Left)
+pub record IsMigrated (words : Migration) (p : Point Outcome) (left : StepState)
     (new : List ℕ → ToldTape) : Type 0 where
   pub from : MigratesFrom words left
   pub is_left : IsLeft words.to (map (migrated_row from.rows) from.source.rows) p left.tapes new
 
-abbrev pub Migrates : Migration → Point Outcome → Left → (List ℕ → ToldTape) → Type 0
+abbrev pub Migrates : Migration → Point Outcome → StepState → (List ℕ → ToldTape) → Type 0
 Migrates words p left new =
     (IsShort p × OthersStay words.to left.tapes new
     × IsUngrown (left.tapes words.to) (new words.to))
     ⊎ IsMigrated words p left new
 
-module _ (words : Migration) (p : Point Outcome) (end left : Left) where
+module _ (words : Migration) (p : Point Outcome) (end left : StepState) where
   abbrev Leaves : Type 0
   Leaves = Migrates words p left end.tapes
 
@@ -211,7 +211,7 @@ module _ (words : Migration) (p : Point Outcome) (end left : Left) where
   out_there other f = ap (λ q. if q then or_empty (left.tapes words.to) else left.tapes other) f
 
   -- they are as they were
-  same : {here : Point Outcome} {last : Left} → IsAt p end here last → IsShort here
+  same : {here : Point Outcome} {last : StepState} → IsAt p end here last → IsShort here
       → last.tapes ≡ left.tapes → Leaves
   same at short e =
       let ends : end.tapes ≡ left.tapes = ap (λ l. l.tapes) at.1 ∙ e in inl (
@@ -221,7 +221,7 @@ module _ (words : Migration) (p : Point Outcome) (end left : Left) where
       )
 
   -- the target was made, where it was absent
-  made : {here : Point Outcome} {last : Left} → IsAt p end here last → IsShort here
+  made : {here : Point Outcome} {last : StepState} → IsAt p end here last → IsShort here
       → last.tapes ≡ out → Leaves
   made at short e =
       let ends : end.tapes ≡ out = ap (λ l. l.tapes) at.1 ∙ e in inl (
@@ -235,9 +235,9 @@ module _ (words : Migration) (p : Point Outcome) (end left : Left) where
       (means : IsConfiguration words.config file (Ok rows))
       (held : Agrees (left.tapes words.store) (Some bytes))
       (read : IsStored bytes (Ok source)) where
-    at_copy : (target : Stored) (mid : Left) → target ≡ new_store [] → mid.tapes ≡ out
+    at_copy : (target : Stored) (mid : StepState) → target ≡ new_store [] → mid.tapes ≡ out
         → Agrees (or_empty (left.tapes words.to)) (Some [])
-        → Goes p end (copied_into words.to rows source target) mid → Leaves
+        → RunTo p end (copied_into words.to rows source target) mid → Leaves
     at_copy target mid new e empty (inl at) = made at tt e
     at_copy target mid new e empty (inr (u, v, goes)) =
         let told = empty_told (or_empty (left.tapes words.to)) empty in
@@ -256,12 +256,12 @@ module _ (words : Migration) (p : Point Outcome) (end left : Left) where
           is_left = copies_left words.to lines (migrated_line source.rows) p end [] lines told.0
               left.tapes mid refl (λ other f. ap (λ t. t other) e ∙ out_there other f)
               (ap (λ t. t words.to) e ∙ out_here ∙ told.1) told.2
-              (subst (λ s. Goes p end (and_then (copying words.to s lines)
+              (subst (λ s. RunTo p end (and_then (copying words.to s lines)
               (λ copied. give (silently (migrated_line source.rows)))) mid) new goes);
         })
 
-    at_target : (mid : Left) → mid.tapes ≡ out
-        → Goes p end (and_then (target_on words.to) (copied_into words.to rows source)) mid
+    at_target : (mid : StepState) → mid.tapes ≡ out
+        → RunTo p end (and_then (target_on words.to) (copied_into words.to rows source)) mid
         → Leaves
     at_target mid e (inl at) = made at tt e
     at_target mid e (inr (byte ∷ more, agrees, at)) = made at tt e
@@ -273,7 +273,7 @@ module _ (words : Migration) (p : Point Outcome) (end left : Left) where
         at_copy target mid (new_of again target is.0 is.1 is.2) e
         (subst (λ t. Agrees t (Some [])) (ap (λ t. t words.to) e ∙ out_here) agrees) goes
 
-module _ (words : Migration) (p : Point Outcome) (end left : Left) where
+module _ (words : Migration) (p : Point Outcome) (end left : StepState) where
   abbrev settling_it : Outcome → Steps Outcome
   settling_it made = settle Target words.to (give made)
 
@@ -297,29 +297,29 @@ module _ (words : Migration) (p : Point Outcome) (end left : Left) where
     );
   })
 
-  ended_so : (q : Point Outcome) (mid : Left) → (p ≡ q) × (end ≡ mid)
+  ended_so : (q : Point Outcome) (mid : StepState) → (p ≡ q) × (end ≡ mid)
       → Migrates words q left mid.tapes → Leaves words p end left
-  ended_so q mid at m = subst (λ (l : Left). Migrates words p left l.tapes) (sym at.1)
+  ended_so q mid at m = subst (λ (l : StepState). Migrates words p left l.tapes) (sym at.1)
       (subst (λ r. Migrates words r left mid.tapes) (sym at.0) m)
 
-  settled_on : (q : Point Outcome) (mid : Left) → Migrates words q left mid.tapes
+  settled_on : (q : Point Outcome) (mid : StepState) → Migrates words q left mid.tapes
       → Further p end settling_it q mid → Leaves words p end left
   settled_on (awaits call) mid m at = ended_so (awaits call) mid at m
   settled_on amid mid m at = ended_so amid mid at m
   settled_on (refuses why) mid m at = ended_so (refuses why) mid at m
   settled_on (gives x) mid m (inl at) =
-      subst (λ (l : Left). Migrates words p left l.tapes) (sym at.1)
+      subst (λ (l : StepState). Migrates words p left l.tapes) (sym at.1)
       (through mid.tapes (gives x) (λ is. subst (IsThrough Target words.to) (sym at.0) refl)
       (λ none. absurd none) (λ none. absurd none) (λ none. absurd none) m)
   settled_on (gives x) mid m (inr at) =
-      subst (λ (l : Left). Migrates words p left l.tapes) (sym at.1)
+      subst (λ (l : StepState). Migrates words p left l.tapes) (sym at.1)
       (through mid.tapes (gives x) (λ is. subst (IsThrough Target words.to) (sym at.0) is)
       (λ none. absurd none) (λ none. absurd none) (λ none. absurd none) m)
 
   at_tape : (file : Option (List ℕ)) (rows : List ConfigEntry) (bytes : List ℕ) (source : Stored)
       → Agrees (left.file words.config) file → IsConfiguration words.config file (Ok rows)
-      → Agrees (left.tapes words.store) (Some bytes) → IsStored bytes (Ok source) → (mid : Left)
-      → mid.tapes ≡ left.tapes → Goes p end (migrating_into words.to rows source) mid
+      → Agrees (left.tapes words.store) (Some bytes) → IsStored bytes (Ok source) → (mid : StepState)
+      → mid.tapes ≡ left.tapes → RunTo p end (migrating_into words.to rows source) mid
       → Leaves words p end left
   at_tape file rows bytes source configured means held read mid e (inl at) =
       same words p end left at tt e
@@ -330,24 +330,24 @@ module _ (words : Migration) (p : Point Outcome) (end left : Left) where
       absurd (let t : true ≡ false = never in cc)
   at_tape file rows bytes source configured means held read mid e
       (inr (inr (inr (may, goes)))) =
-      let out : Left = with_tape true words.to (with_asked (Tape words.to ToMake) mid) in
+      let out : StepState = with_tape true words.to (with_asked (Tape words.to ToMake) mid) in
       let r = parted settling_it p end
       (and_then (target_on words.to) (copied_into words.to rows source)) out goes in
       settled_on r.0 r.1 (at_target words r.0 r.1 left file rows bytes source configured means held
       read out (ap (tapes_with true words.to) e) r.2) r.3
 
-  unchanged : {here : Point Outcome} {last : Left} → IsAt p end here last → IsShort here
+  unchanged : {here : Point Outcome} {last : StepState} → IsAt p end here last → IsShort here
       → last.tapes ≡ left.tapes → Leaves words p end left
   unchanged at short e = same words p end left at short e
 
   -- the store's tape is lent
-  abbrev lent : Left
+  abbrev lent : StepState
   lent = with_tape false words.store (with_asked (Tape words.store ToRead)
       (with_asked (File words.config) left))
 
   at_source : (file : Option (List ℕ)) (rows : List ConfigEntry)
       → Agrees (left.file words.config) file → IsConfiguration words.config file (Ok rows)
-      → Goes p end (and_then (source_on words.store) (migrating_into words.to rows)) lent
+      → RunTo p end (and_then (source_on words.store) (migrating_into words.to rows)) lent
       → Leaves words p end left
   at_source file rows agrees is (inl at) = unchanged at tt refl
   at_source file rows agrees is (inr (bytes, held, inl at)) = unchanged at tt refl
@@ -357,7 +357,7 @@ module _ (words : Migration) (p : Point Outcome) (end left : Left) where
       at_tape file rows bytes source agrees is held
       (old_of bytes source read.0 read.1 read.2) lent refl goes
 
-  pub migrate_leaves : Goes p end (migrating words) left → Leaves words p end left
+  pub migrate_leaves : RunTo p end (migrating words) left → Leaves words p end left
   migrate_leaves (inl at) = unchanged at tt refl
   migrate_leaves (inr (inl at)) = unchanged at tt refl
   migrate_leaves (inr (inr (file, agrees, inl at))) = unchanged at tt refl

@@ -9,10 +9,10 @@ use Rattle.kr_cmd_messages.specs.declared.command.Command.{Command}
 use Rattle.kr_cmd_messages.specs.declared.refusal.Done.{Done}
 use Rattle.kr_cmd_messages.specs.declared.refusal.Outcome.{Outcome}
 use Rattle.kr_cmd_messages.specs.declared.refusal.Stop.{Stop}
-use Rattle.kr_cmd_steps.specs.Around.{Around, left_of}
+use Rattle.kr_cmd_steps.specs.Environment.{Environment, step_state}
 use Rattle.kr_cmd_steps.specs.Commands.{steps}
 use Rattle.kr_cmd_steps.specs.Ran.{Closes, Comes, IsUnasked, end_at}
-use Rattle.kr_cmd_steps.specs.Steps.{Goes, Left, Point, awaits, amid, refuses, gives}
+use Rattle.kr_cmd_steps.specs.Steps.{RunTo, StepState, Point, awaits, amid, refuses, gives}
 use Rattle.kr_cmd_steps.specs.Telling.{AnswersOnce, IsTold, MayEnd}
 use Rattle.kr_cmd_steps.proofs.Ends.{decided_stop}
 use Rattle.kr_cmd_laws.specs.Results.{HoldAlike}
@@ -41,33 +41,33 @@ is_last (gives made) n at = tt
 is_last other n at = absurd cc
 
 -- closing a command asks no plugin
-heard_last : (command : Command) (stop point : Point Outcome) (end last : Left)
+heard_last : (command : Command) (stop point : Point Outcome) (end last : StepState)
     (n : Result Done Stop)
     → end_at point ≡ Some n → Closes command stop end point last → last.heard ≡ end.heard
-heard_last command stop point end last n at (inl (s, (p, e))) = ap (λ (l : Left). l.heard) e
+heard_last command stop point end last n at (inl (s, (p, e))) = ap (λ (l : StepState). l.heard) e
 heard_last command stop point end last n at (inr (stops, (name, is, inl (p, e)))) =
-    ap (λ (l : Left). l.heard) e
+    ap (λ (l : StepState). l.heard) e
 heard_last command stop point end last n at (inr (stops, (name, is, inr (p, e)))) =
     absurd (let q : None ≡ Some n = sym (ap end_at p) ∙ at in cc)
 
 -- ---- words ask for one command
 
 -- a command that came to a point ended as its steps may end
-pub same_end : {words : List (List ℕ)} {old new : Around} {command : Command} {q : Point Outcome}
+pub same_end : {words : List (List ℕ)} {old new : Environment} {command : Command} {q : Point Outcome}
     (point : Point Outcome) (m n : Result Done Stop)
     → Asks words command → IsUnasked old new → AnswersOnce new.heard
-    → IsTold new.heard (steps command) (left_of old) → MayEnd new.heard command old point
+    → IsTold new.heard (steps command) (step_state old) → MayEnd new.heard command old point
     → Comes words old new q → end_at point ≡ Some m → end_at q ≡ Some n → m ≡ n
 same_end {words} {old} {new} {command} {q} point m n asks unasked once told may (said, comes) at
     decides =
     let r = comes.reaches in
-    let goes : Goes q r.end (steps command) (left_of old) =
-    subst (λ c. Goes q r.end (steps c) (left_of old)) (one_command comes.asks asks)
-    (subst (λ p. Goes p r.end (steps comes.command) (left_of old))
+    let goes : RunTo q r.end (steps command) (step_state old) =
+    subst (λ c. RunTo q r.end (steps c) (step_state old)) (one_command comes.asks asks)
+    (subst (λ p. RunTo p r.end (steps comes.command) (step_state old))
     (decided_stop comes.command r.stop q r.end r.last n decides r.closes) r.goes) in
     let heard : r.end.heard ≡ new.heard =
     sym (heard_last comes.command r.stop q r.end r.last n decides r.closes) ∙ sym r.stays.heard in
-    let left : Left = left_of old in
+    let left : StepState = step_state old in
     let met = command_way new.heard point q may.end r.end (is_last point m at) (is_last q n decides)
     may.heard heard once command left left left told (
       λ name. shared_itself (left.file name),

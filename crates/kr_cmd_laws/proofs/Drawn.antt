@@ -14,19 +14,19 @@ use Rattle.kr_cmd_messages.specs.declared.refusal.Object.{Object}
 use Rattle.kr_cmd_messages.specs.declared.refusal.Outcome.{Outcome}
 use Rattle.kr_cmd_messages.specs.declared.refusal.Stop.{Stop}
 use Rattle.kr_cmd_messages.specs.declared.refusal.Stop.TheVariants.{Fault, NoMemory, Refused, Words}
-use Rattle.kr_cmd_steps.specs.Around.{Around, IsFault, IsHome, Stays, left_of, with_what_is_said}
+use Rattle.kr_cmd_steps.specs.Environment.{Environment, IsFault, IsHome, IsStateOf, step_state, with_what_is_said}
 use Rattle.kr_cmd_steps.specs.Commands.{steps}
 use Rattle.kr_cmd_steps.specs.Ran.{Answers, Closes, Did, EndsAll, ReachesEnd, SaysNothing}
-use Rattle.kr_cmd_steps.specs.Steps.{Call, Goes, IsAt, Left, Point, Steps, amid, asking, ask_status, awaits, borrow_dice, borrow_link, borrow_tape, draw, drawing, find, give, give_back, gives, instead, keep_rows, lending, linking, load, loading, note, opening, read_tape, reading, refuse, refuses, scanning, settle, settling, take_input, unwrap, with_asked, with_dice, with_heard, with_input, with_said, with_tape, with_told, wrap, write_row, writing}
+use Rattle.kr_cmd_steps.specs.Steps.{Call, RunTo, IsAt, StepState, Point, Steps, amid, asking, ask_status, awaits, borrow_dice, borrow_link, borrow_tape, draw, drawing, find, give, give_back, gives, instead, keep_rows, lending, linking, load, loading, note, opening, read_tape, reading, refuse, refuses, scanning, settle, settling, take_input, unwrap, with_asked, with_dice, with_heard, with_input, with_said, with_tape, with_told, wrap, write_row, writing}
 use Rattle.kr_cmd_laws.specs.DrawLaws.{ToldDraws, drawing_from}
 
 -- ---- what is left, with these bytes told
 
-abbrev over : List ℕ → Left → Left
+abbrev over : List ℕ → StepState → StepState
 over bytes left = with_dice 0 (Some bytes) left
 
 -- what was told of the source before doesn't matter
-told_anew : (told first second : Option (List ℕ)) (left : Left)
+told_anew : (told first second : Option (List ℕ)) (left : StepState)
     → with_dice 0 told (with_dice 0 first left) ≡ with_dice 0 told (with_dice 0 second left)
 told_anew told first second left =
     ap (λ (dice : ℕ → Option (List ℕ)). record left { dice = dice })
@@ -44,7 +44,7 @@ never_both seat other first second =
     let a = eqb-true 0 other first in let b = eqb-true (suc seat) other second in
     absurd (omega (arith, a, b))
 
-told_apart : (seat : ℕ) (told rest : Option (List ℕ)) (left : Left)
+told_apart : (seat : ℕ) (told rest : Option (List ℕ)) (left : StepState)
     → with_dice 0 told (with_dice (suc seat) rest left)
     ≡ with_dice (suc seat) rest (with_dice 0 told left)
 told_apart seat told rest left =
@@ -77,15 +77,15 @@ keeps_by false x y k = k
 
 -- ---- steps
 
-module _ {A : Type 0} (point : Point A) (end : Left) where
-  abbrev Drew : Steps A → Left → Type 0
-  Drew s left = (bytes : List ℕ) × Goes point (over [] end) s (over bytes left)
+module _ {A : Type 0} (point : Point A) (end : StepState) where
+  abbrev Drew : Steps A → StepState → Type 0
+  Drew s left = (bytes : List ℕ) × RunTo point (over [] end) s (over bytes left)
 
-  at_end : (here : Point A) (left : Left) → IsAt point end here left
+  at_end : (here : Point A) (left : StepState) → IsAt point end here left
       → IsAt point (over [] end) here (over [] left)
   at_end here left a = (a.0, ap (over []) a.1)
 
-  drew : (s : Steps A) (left : Left) → Goes point end s left → Drew s left
+  drew : (s : Steps A) (left : StepState) → RunTo point end s left → Drew s left
   drew (load name next) left (inl a) = ([], inl (at_end amid left a))
   drew (load name next) left (inr (inl a)) =
       ([], inr (inl (at_end (awaits (loading name)) (with_asked (File name) left) a)))
@@ -157,7 +157,7 @@ module _ {A : Type 0} (point : Point A) (end : Left) where
           Some w.0,
           refl,
           long,
-          subst (Goes point (over [] end) (next bytes))
+          subst (RunTo point (over [] end) (next bytes))
               (told_anew (Some w.0) rest (Some (bytes ++ w.0)) left) w.1,
         ),
       )
@@ -169,7 +169,7 @@ module _ {A : Type 0} (point : Point A) (end : Left) where
           rest,
           subst (λ told. Consumes told rest bytes) (sym (same_apart seat (Some w.0) left.dice)) fits,
           long,
-          subst (Goes point (over [] end) (next bytes)) (told_apart seat (Some w.0) rest left) w.1,
+          subst (RunTo point (over [] end) (next bytes)) (told_apart seat (Some w.0) rest left) w.1,
         ),
       )
   drew (borrow_link seat plugin program next) left (inl a) = ([], inl (at_end amid left a))
@@ -223,14 +223,14 @@ module _ {A : Type 0} (point : Point A) (end : Left) where
 
 -- ---- a command
 
-says_nothing : (stop : Point Outcome) (end : Left) → SaysNothing stop end
+says_nothing : (stop : Point Outcome) (end : StepState) → SaysNothing stop end
     → SaysNothing stop (over [] end)
 says_nothing (gives made) end s = tt
 says_nothing (awaits call) end s = s
 says_nothing amid end s = s
 says_nothing (refuses why) end s = s
 
-closes_so : (command : Command) (stop point : Point Outcome) (end last : Left)
+closes_so : (command : Command) (stop point : Point Outcome) (end last : StepState)
     → Closes command stop end point last → Closes command stop (over [] end) point (over [] last)
 closes_so command stop point end last (inl a) =
     inl (says_nothing stop end a.0, (a.1.0, ap (over []) a.1.1))
@@ -239,7 +239,7 @@ closes_so command stop point end last (inr (is, (name, reports, inl a))) =
 closes_so command stop point end last (inr (is, (name, reports, inr a))) =
     inr (is, (name, reports, inr (a.0, ap (over []) a.1)))
 
-stays_so : (last : Left) (new : Around) → Stays last new → Stays (over [] last) (drawing_from [] new)
+stays_so : (last : StepState) (new : Environment) → IsStateOf last new → IsStateOf (over [] last) (drawing_from [] new)
 stays_so last new s = record {
   file = s.file;
   tapes = s.tapes;
@@ -251,7 +251,7 @@ stays_so last new s = record {
   said = s.said;
 }
 
-home_so : (old new : Around) (bytes : List ℕ) → IsHome old new
+home_so : (old new : Environment) (bytes : List ℕ) → IsHome old new
     → IsHome (drawing_from bytes old) (drawing_from [] new)
 home_so old new bytes h = record {
   files = record { file = h.files.file; later = h.files.later };
@@ -261,7 +261,7 @@ home_so old new bytes h = record {
   input = h.input;
 }
 
-fault_so : (call : Call) (object : Object) (count : ℕ) (old new : Around) (bytes : List ℕ)
+fault_so : (call : Call) (object : Object) (count : ℕ) (old new : Environment) (bytes : List ℕ)
     → IsFault call object count old new
     → IsFault call object count (drawing_from bytes old) (drawing_from [] new)
 fault_so (loading name) object count old new bytes f = f
@@ -275,12 +275,12 @@ fault_so (drawing seat) object count old new bytes f = f
 fault_so (linking seat plugin) object count old new bytes f = f
 fault_so (asking seat plugin) object count old new bytes f = f
 
-module _ (command : Command) (old new : Around) where
-  reaches_so : (point : Point Outcome) → ReachesEnd command (left_of old) new point
+module _ (command : Command) (old new : Environment) where
+  reaches_so : (point : Point Outcome) → ReachesEnd command (step_state old) new point
       → (bytes : List ℕ)
-      × ReachesEnd command (left_of (drawing_from bytes old)) (drawing_from [] new) point
+      × ReachesEnd command (step_state (drawing_from bytes old)) (drawing_from [] new) point
   reaches_so point r =
-      let w = drew r.stop r.end (steps command) (left_of old) r.goes in (
+      let w = drew r.stop r.end (steps command) (step_state old) r.goes in (
         w.0,
         record {
           stop = r.stop;
@@ -292,9 +292,9 @@ module _ (command : Command) (old new : Around) where
         },
       )
 
-  ends_so : (made : Result Outcome Stop) → EndsAll command (left_of old) old new made
+  ends_so : (made : Result Outcome Stop) → EndsAll command (step_state old) old new made
       → (bytes : List ℕ)
-      × EndsAll command (left_of (drawing_from bytes old)) (drawing_from bytes old)
+      × EndsAll command (step_state (drawing_from bytes old)) (drawing_from bytes old)
       (drawing_from [] new) made
   ends_so (Ok made) r = reaches_so (gives made) r
   ends_so (Err (Words why)) r = absurd r
@@ -306,7 +306,7 @@ module _ (command : Command) (old new : Around) where
       let w = reaches_so (awaits call) r in (w.0, inl (call, may, w.1))
   ends_so (Err NoMemory) (inr r) = let w = reaches_so amid r in (w.0, inr w.1)
 
-did_so : (words : List (List ℕ)) (old new : Around) (made : Result Outcome Stop)
+did_so : (words : List (List ℕ)) (old new : Environment) (made : Result Outcome Stop)
     → Did words old new made
     → (bytes : List ℕ) × Did words (drawing_from bytes old) (drawing_from [] new) made
 did_so words old new made d =
@@ -320,7 +320,7 @@ did_so words old new made d =
       },
     )
 
-answers_so : (words : List (List ℕ)) (old new : Around) (output : Receipt)
+answers_so : (words : List (List ℕ)) (old new : Environment) (output : Receipt)
     (result : Result Done Stop) → Answers words old new output result
     → (bytes : List ℕ) × Answers words (drawing_from bytes old) (drawing_from [] new) output result
 answers_so words old new output result (inl (stops, untouched)) =

@@ -27,7 +27,7 @@ use Rattle.kr_workers.specs.declared.ending.Ending.{Ending}
 use Rattle.kr_workers.specs.declared.ending.Ending.TheVariants as ending
 use Rattle.kr_workers.specs.declared.worker.Worker.{Worker}
 use Rattle.kr_workers.proofs.Sentencing.{histories_tell}
-use Rattle.kr_cmd_steps.specs.Around.{Around, IsHome, left_of}
+use Rattle.kr_cmd_steps.specs.Environment.{Environment, IsHome, step_state}
 use Rattle.kr_cmd_fleet.specs.Causes.{NoneRose}
 use Rattle.kr_cmd_fleet.specs.FleetReadings.{IsCompleted}
 use Rattle.kr_cmd_fleet.specs.FleetReady.{IsReady}
@@ -35,7 +35,7 @@ use Rattle.kr_cmd_fleet.specs.Fleets.{Begun, DidFleet, IsEquipped, RanFleet, Run
 use Rattle.kr_cmd_messages.specs.Message.{status_of as stop_status}
 use Rattle.kr_cmd_steps.specs.Ran.{WroteNothing}
 use Rattle.kr_cmd_messages.specs.Receipts.{Receipt}
-use Rattle.kr_cmd_steps.specs.Steps.{Left, asking, drawing, gives, refuses, scanning, settling}
+use Rattle.kr_cmd_steps.specs.Steps.{StepState, asking, drawing, gives, refuses, scanning, settling}
 use Rattle.kr_cmd_messages.specs.declared.fleet_words.FleetWords.{FleetWords}
 use Rattle.kr_cmd_steps.specs.declared.programs.Program.{Program}
 use Rattle.kr_cmd_messages.specs.declared.refusal.Object.TheVariants.{Store}
@@ -93,7 +93,7 @@ name_there link links it (k, below, is) = (
 
 pub started_or_not : {T L D : Type 0} {link : L → Link}
     {step : L → Exchange → L → Type 0} {lent took : ℕ → L → Type 0}
-    {left : D → Option (List ℕ)} {count : D → ℕ} {words : FleetWords} {old new : Around}
+    {left : D → Option (List ℕ)} {count : D → ℕ} {words : FleetWords} {old new : Environment}
     {output : Receipt} {result : Result Ending Stop}
     → DidFleet T link step lent took left count words old new output result
     → StopsBefore T link step left count (fleet_steps words) words.store old new output result
@@ -114,11 +114,11 @@ started_or_not {T} {link = link} {step = step} {lent = lent} {took = took}
 
 module _ (T : Type 0) {L D : Type 0} (link : L → Link)
     (step : L → Exchange → L → Type 0) (lent took : ℕ → L → Type 0)
-    (left : D → Option (List ℕ)) (count : D → ℕ) (words : FleetWords) (old : Around)
-    (ready : IsReady words old) (new : Around) (output errors : Receipt)
+    (left : D → Option (List ℕ)) (count : D → ℕ) (words : FleetWords) (old : Environment)
+    (ready : IsReady words old) (new : Environment) (output errors : Receipt)
     (none : NoneRose old new output errors) where
   -- a worker's link is the seat's, and no seat's count rose
-  module _ (programs : List Program) (seat : ℕ) (a : Around) (links : List L) (dice : D)
+  module _ (programs : List Program) (seat : ℕ) (a : Environment) (links : List L) (dice : D)
       (has : IsEquipped link left count programs seat a links dice) where
     link_is : (it : L) → Contains links it
         → link it ≡ link_at a.world.links seat (link it).name
@@ -129,7 +129,7 @@ module _ (T : Type 0) {L D : Type 0} (link : L → Link)
     named_there it c = subst (λ ns. Contains ns (link it).name) has.names
         (name_there link links it c)
 
-  module _ (begun : Begun) (mid : Around) (since : IsHome old mid) (end : Left)
+  module _ (begun : Begun) (mid : Environment) (since : IsHome old mid) (end : StepState)
       (begins : BeginsWell words old ready begun end)
       (links : mid.world.links.told ≡ old.world.links.told)
       (history : List Entry) (ended : List (Worker T L D))
@@ -237,7 +237,7 @@ module _ (T : Type 0) {L D : Type 0} (link : L → Link)
       (idle : WroteNothing errors) where
     begins : BeginsWell words old ready s.begun s.reaches.end
     begins = allowed (BeginsWell words old ready) (gives s.begun) s.reaches.end
-        (fleet_steps words) (left_of old) (walks words old ready) s.reaches.goes
+        (fleet_steps words) (step_state old) (walks words old ready) s.reaches.goes
 
     links : s.mid.world.links.told ≡ old.world.links.told
     links = s.reaches.stays.links ∙ begins.sees.links
@@ -282,7 +282,7 @@ module _ (T : Type 0) {L D : Type 0} (link : L → Link)
       absurd (let e : Words why ≡ Fault Store _ = fails.stops in cc)
   stopped_so status (Refused why) is (inl (inl ends, idle)) =
       absurd (allowed (BeginsWell words old ready) (refuses why) ends.end (fleet_steps words)
-      (left_of old) (walks words old ready) ends.goes)
+      (step_state old) (walks words old ready) ends.goes)
   stopped_so status (Refused why) is (inl (inr (inl (e, lacking)), idle)) = absurd cc
   stopped_so status (Refused why) is (inl (inr (inr (mid, begun, reaches, fails, home)), idle)) =
       absurd (let e : Refused why ≡ Fault Store _ = fails.stops in cc)

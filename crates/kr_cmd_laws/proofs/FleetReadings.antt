@@ -3,7 +3,7 @@ use Rattle.std.proofs.Common.{ℕ, List, Option, Result, Err}
 use Rattle.kr_kms.specs.Calls.{Link}
 use Rattle.kr_kms.specs.Exchanges.{Exchange}
 use Rattle.kr_workers.specs.declared.ending.Ending.{Ending}
-use Rattle.kr_cmd_steps.specs.Around.{Around}
+use Rattle.kr_cmd_steps.specs.Environment.{Environment}
 use Rattle.kr_cmd_fleet.specs.FleetReadings.{FleetReadings, HasStarted}
 use Rattle.kr_cmd_fleet.specs.FleetReady.{IsFleetTold}
 use Rattle.kr_cmd_fleet.specs.Fleets.{RanFleet, fleet_steps}
@@ -17,7 +17,7 @@ use Rattle.kr_cmd_laws.proofs.FleetSettled.{settled_fleet}
 
 module _ (T : Type 0) {L D : Type 0} (link : L → Link)
     (step : L → Exchange → L → Type 0) (lent took : ℕ → L → Type 0)
-    (left : D → Option (List ℕ)) (count : D → ℕ) (words : FleetWords) (old new : Around)
+    (left : D → Option (List ℕ)) (count : D → ℕ) (words : FleetWords) (old new : Environment)
     (output errors : Receipt) where
   abbrev Began : Result Ending Stop → Type 0
   Began result = HasStarted T link step lent took left count words old new output errors

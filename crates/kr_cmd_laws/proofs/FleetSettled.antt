@@ -23,7 +23,7 @@ use Rattle.kr_script.proofs.OneAnswer.{one_meaning}
 use Rattle.kr_store.specs.declared.rows.LogRow.{LogRow}
 use Rattle.kr_watch.specs.declared.item.Item.{Item}
 use Rattle.kr_words.specs.Arguments.{plugin_program}
-use Rattle.kr_cmd_steps.specs.Around.{Around, left_of}
+use Rattle.kr_cmd_steps.specs.Environment.{Environment, step_state}
 use Rattle.kr_cmd_steps.specs.Phases.{by_result, configuration, with_memory}
 use Rattle.kr_cmd_fleet.specs.FleetFiles.{FleetPlan, IsFleetFile, NamedRows, all_rows, files_in, all_files, file_programs, file_entries, script_refusal, unless_read}
 use Rattle.kr_cmd_fleet.specs.FleetReady.{IsFleetTold}
@@ -31,7 +31,7 @@ use Rattle.kr_cmd_fleet.specs.Fleets.{AreWithin, Begun, IsStart, Replicas, begin
 use Rattle.kr_cmd_steps.specs.Judgements.{start_refusal}
 use Rattle.kr_cmd_steps.specs.Plugins.{join_program, make_seeds, settings_programs}
 use Rattle.kr_cmd_steps.specs.Telling.{AreTold}
-use Rattle.kr_cmd_steps.specs.Steps.{Left, Steps, and_then, give, or_empty, with_asked}
+use Rattle.kr_cmd_steps.specs.Steps.{StepState, Steps, and_then, give, or_empty, with_asked}
 use Rattle.kr_cmd_steps.specs.StoreFiles.{Stored}
 use Rattle.kr_cmd_messages.specs.declared.fleet_words.FleetWords.{FleetWords}
 use Rattle.kr_cmd_steps.specs.declared.programs.Program.{Program}
@@ -107,14 +107,14 @@ one_start rows x y (Err v) (Err w) e (c, is, told) (d, so, also) =
 -- ---- the configurations
 
 -- what steps leave of files, tapes and statuses is what was told before
-pub record IsAs (left now : Left) : Type 0 where
+pub record IsAs (left now : StepState) : Type 0 where
   pub file : now.file ≡ left.file
   pub tapes : now.tapes ≡ left.tapes
   pub links : now.links ≡ left.links
 
-settled_files : (names : List (List ℕ)) (read : List NamedRows) (first left : Left)
+settled_files : (names : List (List ℕ)) (read : List NamedRows) (first left : StepState)
     → IsAs first left → AreTold left.file names → (next : List NamedRows → Steps Outcome)
-    → ((files : List NamedRows) (l : Left) → IsAs first l → GoOneWay (next files) l)
+    → ((files : List NamedRows) (l : StepState) → IsAs first l → GoOneWay (next files) l)
     → GoOneWay (and_then (files_in read names) next) left
 settled_files [] read first left stays told next s = s read left stays
 settled_files (name ∷ names) read first left stays told next s =
@@ -125,7 +125,7 @@ settled_files (name ∷ names) read first left stays told next s =
     more : List ConfigEntry → Steps (List NamedRows)
     more rows = with_memory (files_in (read ++ (name, rows) ∷ []) names)
 
-    now : Left
+    now : StepState
     now = with_asked (File name) left
 
     by_rows : ((rows : List ConfigEntry)
@@ -153,9 +153,9 @@ settled_files (name ∷ names) read first left stays told next s =
 
 module _ {A : Type 0} (programs : List Program) (next : Steps A) (f : A → Steps Outcome)
     (first : ℕ × List ℕ → Option Status)
-    (go_on : (l r : Left) → l.links ≡ first → r.links ≡ first
+    (go_on : (l r : StepState) → l.links ≡ first → r.links ≡ first
     → IsSettled (and_then next f) (and_then next f) l r) where
-  settled_equipping : (seat seats : ℕ) (l r : Left) → l.links ≡ first → r.links ≡ first
+  settled_equipping : (seat seats : ℕ) (l r : StepState) → l.links ≡ first → r.links ≡ first
       → IsSettled (and_then (equipping programs seat seats next) f)
       (and_then (equipping programs seat seats next) f) l r
   settled_equipping seat zero l r x y = go_on l r x y
@@ -172,7 +172,7 @@ module _ (files : List NamedRows) (first : ℕ × List ℕ → Option Status)
     (told : (name : List ℕ) (rows : List ConfigEntry) → file_entries files name ≡ Some rows
     → (plugin : List ℕ) → Contains (plugin_order rows) plugin → IsSome (first (0, plugin)))
     (next : Replicas → Steps Outcome)
-    (go_on : (x y : Replicas) (l r : Left) → settings_of x ≡ settings_of y
+    (go_on : (x y : Replicas) (l r : StepState) → settings_of x ≡ settings_of y
     → IsSettled (next x) (next y) l r) where
   one_longer : (x y : Replicas) (p q : Option Publication) → settings_of x ≡ settings_of y
       → option_map (λ (s : Publication). s.rows) p ≡ option_map (λ (s : Publication). s.rows) q
@@ -182,7 +182,7 @@ module _ (files : List NamedRows) (first : ℕ × List ℕ → Option Status)
       ∙ (λ i. e i ++ f i ∷ [])
       ∙ sym (map-append (option_map (λ (s : Publication). s.rows)) y (q ∷ []))
 
-  pub settled_publishing : (replicas : List (List ℕ × List ℕ)) (x y : Replicas) (l r : Left)
+  pub settled_publishing : (replicas : List (List ℕ × List ℕ)) (x y : Replicas) (l r : StepState)
       → l.links ≡ first → r.links ≡ first → settings_of x ≡ settings_of y
       → IsSettled (and_then (publishing files x replicas) next)
       (and_then (publishing files y replicas) next) l r
@@ -196,7 +196,7 @@ module _ (files : List NamedRows) (first : ℕ × List ℕ → Option Status)
       More made = publishing files made replicas
 
       Behind : Type 0
-      Behind = (p q : Option Publication) (s t : Left) → s.links ≡ first → t.links ≡ first
+      Behind = (p q : Option Publication) (s t : StepState) → s.links ≡ first → t.links ≡ first
           → option_map (λ (a : Publication). a.rows) p
           ≡ option_map (λ (a : Publication). a.rows) q
           → IsSettled (and_then (More (x ++ p ∷ [])) next) (and_then (More (y ++ q ∷ [])) next) s t
@@ -231,7 +231,7 @@ module _ (files : List NamedRows) (first : ℕ × List ℕ → Option Status)
 -- ---- the start
 
 pub settled_start : (plan : FleetPlan) (stored : Stored) (budgets : List ℕ) (items : List Item)
-    (x y : Replicas) (l r : Left) → settings_of x ≡ settings_of y
+    (x y : Replicas) (l r : StepState) → settings_of x ≡ settings_of y
     → IsSettled (and_then (starting plan stored budgets x items) closing)
     (and_then (starting plan stored budgets y items) closing) l r
 settled_start plan stored budgets items x y l r e = λ a b h k.
@@ -276,7 +276,7 @@ each_program options (first ∷ plugins) programs e plugin c =
     by (Some file) (Ok more) is joined (suc k, below, same) behind =
         behind more refl (k, omega (arith, below), same)
 
-module _ (words : FleetWords) (old : Around) (told : IsFleetTold words old) where
+module _ (words : FleetWords) (old : Environment) (told : IsFleetTold words old) where
   -- a plugin of a file that was read tells its status
   statuses : (plan : FleetPlan)
       → settings_programs words.options (plugin_order (all_rows plan.files)) ≡ Ok plan.programs
@@ -290,7 +290,7 @@ module _ (words : FleetWords) (old : Around) (told : IsFleetTold words old) wher
 
   settled_outfits : (plan : FleetPlan)
       → settings_programs words.options (plugin_order (all_rows plan.files)) ≡ Ok plan.programs
-      → (stored : Stored) (budgets : List ℕ) (l r : Left) → l.links ≡ old.world.links.told
+      → (stored : Stored) (budgets : List ℕ) (l r : StepState) → l.links ≡ old.world.links.told
       → r.links ≡ old.world.links.told
       → IsSettled (and_then (launching false plan stored budgets) closing)
       (and_then (launching false plan stored budgets) closing) l r
@@ -302,7 +302,7 @@ module _ (words : FleetWords) (old : Around) (told : IsFleetTold words old) wher
       (λ a b s t same. settled_start plan stored budgets [] a b s t same) plan.fleet.replicas [] [] l
       r x y refl)
 
-  settled_over : (plan : FleetPlan) (l : Left) → IsAs (left_of old) l
+  settled_over : (plan : FleetPlan) (l : StepState) → IsAs (step_state old) l
       → settings_programs words.options (plugin_order (all_rows plan.files)) ≡ Ok plan.programs
       → GoOneWay (and_then (over_store false words.store plan) closing) l
   settled_over plan l stays e = (
@@ -330,7 +330,7 @@ module _ (words : FleetWords) (old : Around) (told : IsFleetTold words old) wher
   plan_of_files fleet files = and_then (file_programs words.options files) (λ programs.
       give (record { fleet = fleet; files = files; programs = programs }))
 
-  settled_plan : (fleet : Fleet) (files : List NamedRows) (l : Left) → IsAs (left_of old) l
+  settled_plan : (fleet : Fleet) (files : List NamedRows) (l : StepState) → IsAs (step_state old) l
       → GoOneWay (and_then (and_then (plan_of_files fleet files) (over_store false words.store)) closing)
       l
   settled_plan fleet files l stays = λ u v h k.
@@ -348,7 +348,7 @@ module _ (words : FleetWords) (old : Around) (told : IsFleetTold words old) wher
   abbrev fleet_by : Fleet → Steps FleetPlan
   fleet_by fleet = and_then (files_in [] (all_files fleet)) (plan_of_files fleet)
 
-  settled_read : (fleet : Fleet) (l : Left) → IsAs (left_of old) l
+  settled_read : (fleet : Fleet) (l : StepState) → IsAs (step_state old) l
       → AreTold old.world.file (all_files fleet)
       → GoOneWay (and_then (and_then (fleet_by fleet) (over_store false words.store)) closing) l
   settled_read fleet l stays names =
@@ -357,12 +357,12 @@ module _ (words : FleetWords) (old : Around) (told : IsFleetTold words old) wher
       (regroup reads (plan_of_files fleet) (over_store false words.store))
       ∙ regroup reads (λ files. and_then (plan_of_files fleet files) (over_store false words.store))
       closing))
-      (settled_files (all_files fleet) [] (left_of old) l stays
+      (settled_files (all_files fleet) [] (step_state old) l stays
       (subst (λ f. AreTold f (all_files fleet)) (sym stays.file) names)
       (λ files. and_then (and_then (plan_of_files fleet files) (over_store false words.store)) closing)
       (λ files m at. settled_plan fleet files m at))
 
-  pub settled_fleet : GoOneWay (and_then (fleet_steps words) closing) (left_of old)
+  pub settled_fleet : GoOneWay (and_then (fleet_steps words) closing) (step_state old)
   settled_fleet = (
     told.fleet,
     refl,
@@ -374,8 +374,8 @@ module _ (words : FleetWords) (old : Around) (told : IsFleetTold words old) wher
         (subst (IsFleetFile words.file file) is x))),
   )
     where
-      now : Left
-      now = with_asked (File words.file) (left_of old)
+      now : StepState
+      now = with_asked (File words.file) (step_state old)
 
       by : (r : Result Fleet Refusal)
           → ((fleet : Fleet) → r ≡ Ok fleet → AreTold old.world.file (all_files fleet))

@@ -28,7 +28,7 @@ use Rattle.kr_words.specs.Arguments.{plugin_program}
 use Rattle.kr_kms.specs.declared.world.WorldCall.TheVariants.{File}
 use Rattle.kr_workers.specs.Budgets.{AreBudgets, script_budgets, put_lines}
 use Rattle.kr_script.specs.declared.script.Part.{Part}
-use Rattle.kr_cmd_steps.specs.Around.{Around, left_of}
+use Rattle.kr_cmd_steps.specs.Environment.{Environment, step_state}
 use Rattle.kr_cmd_steps.specs.Phases.{by_result, configuration, with_memory}
 use Rattle.kr_cmd_steps.specs.Configuration.{IsConfiguration}
 use Rattle.kr_cmd_fleet.specs.FleetFiles.{FleetPlan, IsFleetFile, NamedRows, all_rows, file_in, file_of_replica, files_in, all_files, no_file, planning, file_programs, file_entries, unless_read}
@@ -36,7 +36,7 @@ use Rattle.kr_cmd_fleet.specs.FleetReady.{HasSettings, HaveSettings, IsConfigure
 use Rattle.kr_cmd_fleet.specs.Fleets.{AreWithin, Begun, IsStart, Replicas, beginning, equipping_all, equipping, fleet_steps, launching, over_store, parts_of, publishes, publishing, rows_of_replica, starting_with}
 use Rattle.kr_cmd_steps.specs.Judgements.{start_refusal}
 use Rattle.kr_cmd_steps.specs.Plugins.{borrow_links_of, join_program, make_seed, make_seeds, settings_programs, unless_breach, wrap_seed}
-use Rattle.kr_cmd_steps.specs.Steps.{Left, Steps, and_then, give, or_empty, tapes_with, with_asked, with_heard}
+use Rattle.kr_cmd_steps.specs.Steps.{StepState, Steps, and_then, give, or_empty, tapes_with, with_asked, with_heard}
 use Rattle.kr_cmd_steps.specs.StoreFiles.{IsStored}
 use Rattle.kr_cmd_messages.specs.declared.fleet_words.FleetWords.{FleetWords}
 use Rattle.kr_cmd_steps.specs.declared.programs.Program.{Program}
@@ -52,7 +52,7 @@ use Rattle.kr_cmd_steps.proofs.Tapes.{own_name}
 -- ---- what is told
 
 -- files and statuses are told as before the call
-pub record Sees (old : Around) (left : Left) : Type 0 where
+pub record Sees (old : Environment) (left : StepState) : Type 0 where
   pub file : left.file ≡ old.world.file
   pub links : left.links ≡ old.world.links.told
 
@@ -64,8 +64,8 @@ pub is_told : {X : Type 0} (told : Option X) (x y : X) → told ≡ Some x → A
 is_told None x y e agrees = absurd cc
 is_told (Some z) x y e agrees = some_same (sym e) ∙ agrees
 
-by_known_then : {A B : Type 0} (Q : B → Left → Type 0) (others : A → Steps B)
-    (r : Result A Refusal) (x : A) (left : Left) → Ok x ≡ r → GivesOnly Q (others x) left
+by_known_then : {A B : Type 0} (Q : B → StepState → Type 0) (others : A → Steps B)
+    (r : Result A Refusal) (x : A) (left : StepState) → Ok x ≡ r → GivesOnly Q (others x) left
     → GivesOnly Q (and_then (by_result r) others) left
 by_known_then Q others r x left e q =
     subst (λ k. GivesOnly Q (and_then (by_result k) others) left) e q
@@ -103,7 +103,7 @@ file_rows files replica rows e = by (bytes_eq replica.1 no_file) e
     by true is = absurd cc
     by false is = is
 
-module _ (words : FleetWords) (old : Around) (ready : IsReady words old) where
+module _ (words : FleetWords) (old : Environment) (ready : IsReady words old) where
   abbrev Ready : List ℕ → Type 0
   Ready name = IsConfigured words old (length ready.fleet.workers) name
 
@@ -120,13 +120,13 @@ module _ (words : FleetWords) (old : Around) (ready : IsReady words old) where
   abbrev IsThere : NamedRows → Type 0
   IsThere file = TellsRows old file.0 file.1 × Ready file.0
 
-  pub record Loaded (names : List (List ℕ)) (files : List NamedRows) (left : Left) : Type 0 where
+  pub record Loaded (names : List (List ℕ)) (files : List NamedRows) (left : StepState) : Type 0 where
     pub there : All IsThere files
     pub read : All (IsRead files) names
     pub sees : Sees old left
     pub tapes : left.tapes ≡ old.world.tapes.told
 
-  loads_files : (done names : List (List ℕ)) (read : List NamedRows) (left : Left)
+  loads_files : (done names : List (List ℕ)) (read : List NamedRows) (left : StepState)
       → All Ready names → All IsThere read → All (IsRead read) done → Sees old left
       → left.tapes ≡ old.world.tapes.told
       → GivesOnly (Loaded (done ++ names)) (files_in read names) left
@@ -147,7 +147,7 @@ module _ (words : FleetWords) (old : Around) (ready : IsReady words old) where
       own = All-head Ready name names each
 
       Behind : Type 0
-      Behind = (files : List NamedRows) (l : Left) → All IsThere files
+      Behind = (files : List NamedRows) (l : StepState) → All IsThere files
           → All (IsRead files) (done ++ name ∷ []) → Sees old l
           → l.tapes ≡ old.world.tapes.told
           → GivesOnly (Loaded (done ++ (name ∷ names))) (files_in files names) l
@@ -226,7 +226,7 @@ module _ (words : FleetWords) (old : Around) (ready : IsReady words old) where
     pub healthy : (plugin : List ℕ) → Contains (names_in plan.programs) plugin
         → IsHealthyAtSeats old (length ready.fleet.workers) plugin
 
-  abbrev Planned : FleetPlan → Left → Type 0
+  abbrev Planned : FleetPlan → StepState → Type 0
   Planned plan left = IsPlanned plan × Sees old left × (left.tapes ≡ old.world.tapes.told)
 
   abbrev plan_by : Fleet → List NamedRows → List Program → Steps FleetPlan
@@ -257,7 +257,7 @@ module _ (words : FleetWords) (old : Around) (ready : IsReady words old) where
         ap (λ l. plugin ∷ l) names,
       )
 
-  plans : (fleet : Fleet) (left : Left) → fleet ≡ ready.fleet → (files : List NamedRows)
+  plans : (fleet : Fleet) (left : StepState) → fleet ≡ ready.fleet → (files : List NamedRows)
       → Loaded (all_files ready.fleet) files left
       → GivesOnly Planned (and_then (file_programs words.options files)
       (λ programs. plan_by fleet files programs)) left
@@ -281,11 +281,11 @@ module _ (words : FleetWords) (old : Around) (ready : IsReady words old) where
         l.tapes,
       )
 
-  plans_fleet : GivesOnly Planned (planning words.file words.options) (left_of old)
+  plans_fleet : GivesOnly Planned (planning words.file words.options) (step_state old)
   plans_fleet = λ bytes agrees r is.
       let file : ready.file.0 ≡ bytes = is_told (old.world.file words.file) ready.file.0 bytes
       ready.file.1 agrees in
-      let now = with_asked (File words.file) (left_of old) in
+      let now = with_asked (File words.file) (step_state old) in
       by_known_then Planned (λ fleet. and_then (files_in [] (all_files fleet)) (λ files.
       and_then (file_programs words.options files) (λ programs.
       plan_by fleet files programs))) r ready.fleet now
@@ -302,8 +302,8 @@ module _ (words : FleetWords) (old : Around) (ready : IsReady words old) where
   -- ---- the budgets
 
   -- the budgets are within the limit
-  budgets_pass : {B : Type 0} (Q : B → Left → Type 0) (others : List ℕ → Steps B)
-      (rows : List LogRow) (parts : List Part) (left : Left) (own : List ℕ)
+  budgets_pass : {B : Type 0} (Q : B → StepState → Type 0) (others : List ℕ → Steps B)
+      (rows : List LogRow) (parts : List Part) (left : StepState) (own : List ℕ)
       → AreWithin rows parts (Ok own)
       → ((budgets : List ℕ) → GivesOnly Q (others budgets) left) → (r : Result (List ℕ) Refusal)
       → AreWithin rows parts r → GivesOnly Q (and_then (by_result r) others) left
@@ -314,16 +314,16 @@ module _ (words : FleetWords) (old : Around) (ready : IsReady words old) where
 
   -- ---- what the workers have
 
-  module _ {A : Type 0} (Q : A → Left → Type 0) (next : Steps A)
-      (go_on : (l : Left) → Sees old l → GivesOnly Q next l) where
-    borrows_links : (seat : ℕ) (programs : List Program) (left : Left) → Sees old left
+  module _ {A : Type 0} (Q : A → StepState → Type 0) (next : Steps A)
+      (go_on : (l : StepState) → Sees old l → GivesOnly Q next l) where
+    borrows_links : (seat : ℕ) (programs : List Program) (left : StepState) → Sees old left
         → GivesOnly Q (borrow_links_of seat programs next) left
     borrows_links seat [] left sees = go_on left sees
     borrows_links seat (program ∷ programs) left sees =
         borrows_links seat programs _ (record { file = sees.file; links = sees.links })
 
-  equips : {A : Type 0} (Q : A → Left → Type 0) (programs : List Program) (next : Steps A)
-      → ((l : Left) → Sees old l → GivesOnly Q next l) → (seat seats : ℕ) (left : Left)
+  equips : {A : Type 0} (Q : A → StepState → Type 0) (programs : List Program) (next : Steps A)
+      → ((l : StepState) → Sees old l → GivesOnly Q next l) → (seat seats : ℕ) (left : StepState)
       → Sees old left → GivesOnly Q (equipping programs seat seats next) left
   equips Q programs next go_on seat zero left sees = go_on left sees
   equips Q programs next go_on seat (suc more) left sees =
@@ -333,7 +333,7 @@ module _ (words : FleetWords) (old : Around) (ready : IsReady words old) where
 
   -- ---- the seeds
 
-  abbrev Seen : {X : Type 0} → X → Left → Type 0
+  abbrev Seen : {X : Type 0} → X → StepState → Type 0
   Seen x left = Sees old left
 
   some_worker : 1 ≤ length ready.fleet.workers
@@ -345,7 +345,7 @@ module _ (words : FleetWords) (old : Around) (ready : IsReady words old) where
       by (Some bytes) (inl long) = absurd (let e = long.1 in cc)
       by (Some bytes) (inr means) = means.1.2.workers
 
-  wraps : (plugin : List ℕ) (left : Left) → IsHealthyAtSeats old (length ready.fleet.workers) plugin
+  wraps : (plugin : List ℕ) (left : StepState) → IsHealthyAtSeats old (length ready.fleet.workers) plugin
       → Sees old left → GivesOnly Seen (make_seed plugin) left
   wraps plugin left healthy sees = λ status agrees.
       let fine = healthy 0 some_worker in
@@ -356,7 +356,7 @@ module _ (words : FleetWords) (old : Around) (ready : IsReady words old) where
       (sym (subst (λ s. breach_in s ≡ None) same fine.2))
       (λ bytes rest wrapped. record { file = sees.file; links = sees.links })
 
-  makes : (plugins : List (List ℕ)) (left : Left)
+  makes : (plugins : List (List ℕ)) (left : StepState)
       → All (IsHealthyAtSeats old (length ready.fleet.workers)) plugins → Sees old left
       → GivesOnly Seen (make_seeds plugins) left
   makes [] left each sees = sees
@@ -394,7 +394,7 @@ module _ (words : FleetWords) (old : Around) (ready : IsReady words old) where
 
   module _ (files : List NamedRows) (there : All IsThere files) where
     -- the settings come to this
-    abbrev Publishes : List (Option (List ConfigEntry)) → Replicas → Left → Type 0
+    abbrev Publishes : List (Option (List ConfigEntry)) → Replicas → StepState → Type 0
     Publishes settings made left = (settings_of made ≡ settings) × Sees old left
 
     healthy_rows : (name : List ℕ) (rows : List ConfigEntry) → file_entries files name ≡ Some rows
@@ -418,7 +418,7 @@ module _ (words : FleetWords) (old : Around) (ready : IsReady words old) where
         ∙ ap (λ r. settings_of made ++ (r ∷ rest)) e ∙ all
 
     publishes_all : (settings : List (Option (List ConfigEntry))) (replicas : List (List ℕ × List ℕ))
-        (made : Replicas) (left : Left)
+        (made : Replicas) (left : StepState)
         → settings_of made ++ map (rows_of_replica files) replicas ≡ settings → Sees old left
         → GivesOnly (Publishes settings) (publishing files made replicas) left
     publishes_all settings [] made left e sees =
@@ -431,7 +431,7 @@ module _ (words : FleetWords) (old : Around) (ready : IsReady words old) where
         More more = publishing files more replicas
 
         Behind : Type 0
-        Behind = (p : Option Publication) (l : Left)
+        Behind = (p : Option Publication) (l : StepState)
             → settings_of (made ++ p ∷ []) ++ map (rows_of_replica files) replicas ≡ settings
             → Sees old l → GivesOnly (Publishes settings) (More (made ++ p ∷ [])) l
 
@@ -493,7 +493,7 @@ module _ (words : FleetWords) (old : Around) (ready : IsReady words old) where
   -- ---- the start
 
   -- what the workers begin with: the told fleet, and programs whose plugins are healthy
-  pub record BeginsWell (begun : Begun) (left : Left) : Type 0 where
+  pub record BeginsWell (begun : Begun) (left : StepState) : Type 0 where
     pub fleet_is : begun.plan.fleet ≡ ready.fleet
     pub healthy : (plugin : List ℕ) → Contains (names_in begun.plan.programs) plugin
         → IsHealthyAtSeats old (length ready.fleet.workers) plugin
@@ -506,7 +506,7 @@ module _ (words : FleetWords) (old : Around) (ready : IsReady words old) where
       absurd (let f : None ≡ Some why = sym (ap start_refusal none) ∙ e in cc)
 
   module _ (plan : FleetPlan) (p : IsPlanned plan) where
-    starts_by : (budgets : List ℕ) (replicas : Replicas) (left : Left) → Sees old left
+    starts_by : (budgets : List ℕ) (replicas : Replicas) (left : StepState) → Sees old left
         → MayStart ready.stored.rows (settings_of replicas)
         → (r : Result (Unit {0}) Refusal) → IsStart ready.stored.rows replicas r
         → GivesOnly BeginsWell (and_then (by_result r) (λ done. with_memory (give (record {
@@ -524,7 +524,7 @@ module _ (words : FleetWords) (old : Around) (ready : IsReady words old) where
     starts_by budgets replicas left sees may (Err why) is =
         absurd (no_refusal ready.stored.rows replicas why may is)
 
-    outfits : (budgets : List ℕ) (left : Left) → Sees old left
+    outfits : (budgets : List ℕ) (left : StepState) → Sees old left
         → GivesOnly BeginsWell (launching false plan ready.stored budgets) left
     outfits budgets left sees =
         let settings = map (rows_of_replica plan.files) plan.fleet.replicas in
@@ -543,7 +543,7 @@ module _ (words : FleetWords) (old : Around) (ready : IsReady words old) where
             (flat_map (λ (worker : Worker). flat_map file_in worker.lines) ready.fleet.workers)
             p.read).0)
 
-    begins : (left : Left) → Sees old left
+    begins : (left : StepState) → Sees old left
         → GivesOnly BeginsWell (beginning false plan ready.stored) left
     begins left sees = budgets_pass BeginsWell (equipping_all false plan ready.stored)
         ready.stored.rows (parts_of plan.fleet) left ready.budgets
@@ -554,7 +554,7 @@ module _ (words : FleetWords) (old : Around) (ready : IsReady words old) where
 
   -- ---- all of them
 
-  over_told : (plan : FleetPlan) (left : Left) → Planned plan left
+  over_told : (plan : FleetPlan) (left : StepState) → Planned plan left
       → GivesOnly BeginsWell (over_store false words.store plan) left
   over_told plan left (p, sees, tapes) = (
     refl,
@@ -570,6 +570,6 @@ module _ (words : FleetWords) (old : Around) (ready : IsReady words old) where
         (begins plan p _ (record { file = sees.file; links = sees.links })),
   )
 
-  pub walks : GivesOnly BeginsWell (fleet_steps words) (left_of old)
+  pub walks : GivesOnly BeginsWell (fleet_steps words) (step_state old)
   walks = gives_then Planned BeginsWell (over_store false words.store) over_told
-      (planning words.file words.options) (left_of old) plans_fleet
+      (planning words.file words.options) (step_state old) plans_fleet

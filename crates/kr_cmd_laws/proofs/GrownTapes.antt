@@ -21,7 +21,7 @@ use Rattle.kr_cmd_steps.specs.ValueSteps.{bench_steps}
 use Rattle.kr_cmd_steps.specs.StoreSteps.{new_row, revision_line, sealed_into, stored_into}
 use Rattle.kr_cmd_steps.specs.Commands.{steps}
 use Rattle.kr_cmd_steps.specs.Plugins.{settings_programs}
-use Rattle.kr_cmd_steps.specs.Steps.{write_row, give, and_then, or_empty, tapes_with, with_asked, with_tape, settle, Steps, Point, awaits, amid, refuses, gives, Left, IsAt, Goes}
+use Rattle.kr_cmd_steps.specs.Steps.{write_row, give, and_then, or_empty, tapes_with, with_asked, with_tape, settle, Steps, Point, awaits, amid, refuses, gives, StepState, IsAt, RunTo}
 use Rattle.kr_cmd_steps.specs.StoreFiles.{Stored, IsStored, with_row}
 use Rattle.kr_cmd_messages.specs.declared.command.Command.TheVariants.{Put}
 use Rattle.kr_cmd_messages.specs.declared.command.Conversion.{Conversion}
@@ -31,7 +31,7 @@ use Rattle.kr_cmd_messages.specs.declared.refusal.Limit.TheVariants as limit
 use Rattle.kr_cmd_messages.specs.declared.refusal.Object.TheVariants.{Store}
 use Rattle.kr_cmd_messages.specs.declared.refusal.Refusal.TheVariants.{Limit}
 use Rattle.kr_cmd_messages.specs.declared.refusal.Outcome.{Outcome}
-use Rattle.kr_cmd_steps.proofs.Goes.{Further}
+use Rattle.kr_cmd_steps.proofs.RunTo.{Further}
 use Rattle.kr_cmd_laws.proofs.Behind.{parted}
 use Rattle.kr_cmd_steps.proofs.Points.{IsShort, IsThrough, IsTorn}
 use Rattle.kr_cmd_laws.proofs.ReadOnly.{configuration_reads, result_reads, work_reads}
@@ -46,7 +46,7 @@ IsGrown words store p old new = OthersStay store old new × (
     ⊎ (IsTorn Store store p × StillBegins (old store) (new store))
     ⊎ (IsThrough Store store p × OneMore words (old store) (new store)))
 
-module _ (words : Conversion) (store : List ℕ) (p : Point Outcome) (end left : Left) where
+module _ (words : Conversion) (store : List ℕ) (p : Point Outcome) (end left : StepState) where
   -- what is left of the tapes, since these were left
   abbrev Grown : Type 0
   Grown = IsGrown words store p left.tapes end.tapes
@@ -55,7 +55,7 @@ module _ (words : Conversion) (store : List ℕ) (p : Point Outcome) (end left :
   same (short, e) = (λ other f. ap (λ t. t other) e, inl (short, inl (ap (λ t. t store) e)))
 
   -- they are so, and the steps end here
-  at_end : {here : Point Outcome} {last : Left} {tapes : List ℕ → ToldTape} → IsAt p end here last
+  at_end : {here : Point Outcome} {last : StepState} {tapes : List ℕ → ToldTape} → IsAt p end here last
       → IsShort here → last.tapes ≡ tapes → IsShort p × (end.tapes ≡ tapes)
   at_end at short e = (subst IsShort (sym at.0) short, ap (λ l. l.tapes) at.1 ∙ e)
 
@@ -89,8 +89,8 @@ module _ (words : Conversion) (store : List ℕ) (p : Point Outcome) (end left :
 
   module _ (rows : List ConfigEntry) (bytes : List ℕ) (read : Stored)
       (held : Agrees (out store) (Some bytes)) (is : IsStored bytes (Ok read)) where
-    at_row : (value : List ℕ) (mid : Left) → mid.tapes ≡ out
-        → Goes p end (and_then (adding Store store read (new_row read.format words rows value))
+    at_row : (value : List ℕ) (mid : StepState) → mid.tapes ≡ out
+        → RunTo p end (and_then (adding Store store read (new_row read.format words rows value))
         (λ grown. give (silently (revision_line grown)))) mid
         → Grown
     at_row value mid e (inl at) = made (at_end at tt e)
@@ -103,7 +103,7 @@ module _ (words : Conversion) (store : List ℕ) (p : Point Outcome) (end left :
         held_now : Agrees (or_empty (left.tapes store)) (Some bytes)
         held_now = subst (λ t. Agrees t (Some bytes)) out_here held
 
-        by_limit : (large : Bool) → Goes p end (and_then (and_then
+        by_limit : (large : Bool) → RunTo p end (and_then (and_then
             (by_result (if large then Err (Limit limit.Store) else Ok (with_row row read)))
             (λ grown. write_row Store store read row (give grown)))
             (λ grown. give (silently (revision_line grown)))) mid
@@ -154,8 +154,8 @@ module _ (words : Conversion) (store : List ℕ) (p : Point Outcome) (end left :
   putting_on rows programs plain =
       and_then (stored_on Store store) (sealed_into words store rows programs plain)
 
-  on_tape : (rows : List ConfigEntry) (programs : List Program) (plain : List ℕ) (mid : Left)
-      → mid.tapes ≡ left.tapes → Goes p end (putting_on rows programs plain)
+  on_tape : (rows : List ConfigEntry) (programs : List Program) (plain : List ℕ) (mid : StepState)
+      → mid.tapes ≡ left.tapes → RunTo p end (putting_on rows programs plain)
       (with_tape true store (with_asked (Tape store ToMake) mid)) → Grown
   on_tape rows programs plain mid e (inl at) =
       made (at_end at tt (ap (tapes_with true store) e))
@@ -177,12 +177,12 @@ module _ (words : Conversion) (store : List ℕ) (p : Point Outcome) (end left :
             (more.2 ∙ ap (tapes_with true store) e) more.3
       ]
 
-module _ (words : Conversion) (store : List ℕ) (p : Point Outcome) (end left : Left) where
+module _ (words : Conversion) (store : List ℕ) (p : Point Outcome) (end left : StepState) where
   abbrev settling_it : Outcome → Steps Outcome
   settling_it made = settle Store store (give made)
 
   -- since the steps before the settling were left so
-  through : (mid : Left) → mid.tapes ≡ end.tapes → (q : Point Outcome)
+  through : (mid : StepState) → mid.tapes ≡ end.tapes → (q : Point Outcome)
       → (IsThrough Store store q → IsThrough Store store p) → (IsShort q → IsShort p)
       → (IsTorn Store store q → IsTorn Store store p) → Grown words store q mid left
       → Grown words store p end left
@@ -203,12 +203,12 @@ module _ (words : Conversion) (store : List ℕ) (p : Point Outcome) (end left :
     ],
   )
 
-  ended_so : (q : Point Outcome) (mid : Left) → (p ≡ q) × (end ≡ mid)
+  ended_so : (q : Point Outcome) (mid : StepState) → (p ≡ q) × (end ≡ mid)
       → Grown words store q mid left → Grown words store p end left
   ended_so q mid at grown = subst (λ l. Grown words store p l left) (sym at.1)
       (subst (λ r. Grown words store r mid left) (sym at.0) grown)
 
-  settled_on : (q : Point Outcome) (mid : Left) → Grown words store q mid left
+  settled_on : (q : Point Outcome) (mid : StepState) → Grown words store q mid left
       → Further p end settling_it q mid → Grown words store p end left
   settled_on (awaits call) mid grown at = ended_so (awaits call) mid at grown
   settled_on amid mid grown at = ended_so amid mid at grown
@@ -220,8 +220,8 @@ module _ (words : Conversion) (store : List ℕ) (p : Point Outcome) (end left :
       (λ is. subst (IsThrough Store store) (sym at.0) is) (λ none. absurd none)
       (λ none. absurd none) grown
 
-  at_tape : (rows : List ConfigEntry) (programs : List Program) (bytes : List ℕ) (mid : Left)
-      → mid.tapes ≡ left.tapes → Goes p end (stored_into words store rows programs bytes) mid
+  at_tape : (rows : List ConfigEntry) (programs : List Program) (bytes : List ℕ) (mid : StepState)
+      → mid.tapes ≡ left.tapes → RunTo p end (stored_into words store rows programs bytes) mid
       → Grown words store p end left
   at_tape rows programs plain mid e (inl at) =
       same words store p end left (at_end words store p end left at tt e)
@@ -237,7 +237,7 @@ module _ (words : Conversion) (store : List ℕ) (p : Point Outcome) (end left :
   unmoved : IsShort p × (end.tapes ≡ left.tapes) → Grown words store p end left
   unmoved at = same words store p end left at
 
-  pub put_grows : Goes p end (steps (Put words store)) left → Grown words store p end left
+  pub put_grows : RunTo p end (steps (Put words store)) left → Grown words store p end left
   put_grows goes = elim (parts (λ rows. and_then (linking_programs words.options rows)
       (λ programs. and_then (input_of Encrypt) (stored_into words store rows programs))) p end
       (configuration words.config) left (configuration_reads words.config) goes) [

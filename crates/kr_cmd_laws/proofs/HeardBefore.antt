@@ -11,7 +11,7 @@ use Rattle.kr_kms.specs.declared.plugin.KmsNo.TheVariants.{Failed}
 use Rattle.kr_kms.specs.declared.seeds.SeedRow.{SeedRow}
 use Rattle.kr_kms.specs.declared.world.WorldCall.TheVariants.{File, Link, RandomSource, Settled, Tape}
 use Rattle.kr_cmd_steps.specs.Plugins.{make_seed, make_seeds, unless_breach, wrap_seed}
-use Rattle.kr_cmd_steps.specs.Steps.{Steps, load, take_input, borrow_dice, borrow_tape, read_tape, write_row, keep_rows, settle, give_back, draw, borrow_link, ask_status, wrap, unwrap, note, find, refuse, give, and_then, gives, Point, Left, Goes, hearing, with_asked, with_dice, with_heard, with_input, with_tape, with_told}
+use Rattle.kr_cmd_steps.specs.Steps.{Steps, load, take_input, borrow_dice, borrow_tape, read_tape, write_row, keep_rows, settle, give_back, draw, borrow_link, ask_status, wrap, unwrap, note, find, refuse, give, and_then, gives, Point, StepState, RunTo, hearing, with_asked, with_dice, with_heard, with_input, with_tape, with_told}
 use Rattle.kr_cmd_laws.proofs.Joints.{joint, no_value, one_value}
 
 module _ (P : Exchange → Type 0) where
@@ -36,16 +36,16 @@ module _ (P : Exchange → Type 0) where
 
   -- ---- any steps
 
-  module _ {A : Type 0} (point : Point A) (end : Left) (all : AllTold end.heard) where
-    at : (left : Left) {here : Point A} → (point ≡ here) × (end ≡ left) → AllTold left.heard
-    at left e = subst (λ (l : Left). AllTold l.heard) e.1 all
+  module _ {A : Type 0} (point : Point A) (end : StepState) (all : AllTold end.heard) where
+    at : (left : StepState) {here : Point A} → (point ≡ here) × (end ≡ left) → AllTold left.heard
+    at left e = subst (λ (l : StepState). AllTold l.heard) e.1 all
 
-    before : (e : Exchange) (left : Left) {here : Point A}
+    before : (e : Exchange) (left : StepState) {here : Point A}
         → (point ≡ here) × (end ≡ with_heard e left) → AllTold left.heard
     before e left is = (earlier e left.heard (at (with_heard e left) is)).0
 
     -- so it is of what was heard before them
-    pub told_before : (s : Steps A) (left : Left) → Goes point end s left → AllTold left.heard
+    pub told_before : (s : Steps A) (left : StepState) → RunTo point end s left → AllTold left.heard
     told_before (load name next) left (inl e) = at left e
     told_before (load name next) left (inr (inl e)) = at (with_asked (File name) left) e
     told_before (load name next) left (inr (inr (bytes, agrees, goes))) =
@@ -127,8 +127,8 @@ module _ (P : Exchange → Type 0) where
     abbrev SeedOpens : SeedRow → Type 0
     SeedOpens row = opens (key_of row) ≡ Some row.seed
 
-    module _ (row : SeedRow) (end : Left) (all : AllTold end.heard) where
-      wrapped_so : (plugin : List ℕ) (left : Left) → Goes (gives row) end (wrap_seed plugin) left
+    module _ (row : SeedRow) (end : StepState) (all : AllTold end.heard) where
+      wrapped_so : (plugin : List ℕ) (left : StepState) → RunTo (gives row) end (wrap_seed plugin) left
           → SeedOpens row
       wrapped_so plugin left (inl e) = absurd (no_value e refl)
       wrapped_so plugin left (inr (bytes, rest, c, fits, inl e)) = absurd (no_value e refl)
@@ -141,15 +141,15 @@ module _ (P : Exchange → Type 0) where
           subst SeedOpens (sym (one_value e))
           (agreed (WrapCall plugin bytes (Ok wrapped))
           (earlier (WrapCall plugin bytes (Ok wrapped)) left.heard
-          (subst (λ (l : Left). AllTold l.heard) e.1 all)).1)
+          (subst (λ (l : StepState). AllTold l.heard) e.1 all)).1)
 
-      unbroken : (plugin : List ℕ) (breach : Option (Field × List ℕ)) (left : Left)
-          → Goes (gives row) end (unless_breach plugin breach (wrap_seed plugin)) left
+      unbroken : (plugin : List ℕ) (breach : Option (Field × List ℕ)) (left : StepState)
+          → RunTo (gives row) end (unless_breach plugin breach (wrap_seed plugin)) left
           → SeedOpens row
       unbroken plugin None left goes = wrapped_so plugin left goes
       unbroken plugin (Some breach) left e = absurd (no_value e refl)
 
-      made_so : (plugin : List ℕ) (left : Left) → Goes (gives row) end (make_seed plugin) left
+      made_so : (plugin : List ℕ) (left : StepState) → RunTo (gives row) end (make_seed plugin) left
           → SeedOpens row
       made_so plugin left (inl e) = absurd (no_value e refl)
       made_so plugin left (inr (inl (answer, e))) = absurd (no_value e refl)
@@ -157,8 +157,8 @@ module _ (P : Exchange → Type 0) where
       made_so plugin left (inr (inr (inr (status, agrees, goes)))) =
           unbroken plugin (breach_in status) _ goes
 
-    pub seeds_open : (plugins : List (List ℕ)) (rows : List SeedRow) (end left : Left)
-        → AllTold end.heard → Goes (gives rows) end (make_seeds plugins) left
+    pub seeds_open : (plugins : List (List ℕ)) (rows : List SeedRow) (end left : StepState)
+        → AllTold end.heard → RunTo (gives rows) end (make_seeds plugins) left
         → OpenAll opens rows
     seeds_open [] rows end left all e =
         subst (OpenAll opens) (sym (one_value e)) (All-nil SeedOpens)
@@ -167,7 +167,7 @@ module _ (P : Exchange → Type 0) where
         (make_seed plugin) left goes in
         let k = joint (λ others. give (j.0 ∷ others)) rows end (make_seeds plugins) j.1 j.3 in
         let late : AllTold k.1.heard =
-        subst (λ (l : Left). AllTold l.heard) k.3.1 all in
+        subst (λ (l : StepState). AllTold l.heard) k.3.1 all in
         subst (OpenAll opens) (sym (one_value k.3))
         (All-cons SeedOpens j.0 k.0
         (made_so j.0 j.1 (told_before (gives k.0) k.1 late (make_seeds plugins) j.1 k.2) plugin left

@@ -1,13 +1,13 @@
 -- Steps that gave something: the first gave something, from which the others went on.
 use Rattle.std.proofs.Common.{◌≡◌, Bool, true, false, refl, ◌∙◌, ap, inl, inr}
-use Rattle.kr_cmd_steps.specs.Steps.{Steps, load, take_input, borrow_dice, borrow_tape, read_tape, write_row, keep_rows, settle, give_back, draw, borrow_link, ask_status, wrap, unwrap, note, find, refuse, give, and_then, Point, gives, Left, IsAt, Goes}
+use Rattle.kr_cmd_steps.specs.Steps.{Steps, load, take_input, borrow_dice, borrow_tape, read_tape, write_row, keep_rows, settle, give_back, draw, borrow_link, ask_status, wrap, unwrap, note, find, refuse, give, and_then, Point, gives, StepState, IsAt, RunTo}
 
 abbrev pub is_value : {A : Type 0} → Point A → Bool
 is_value (gives x) = true
 is_value point = false
 
 -- nothing else is a value
-pub no_value : {A : Type 0} {x : A} {end left : Left} {here : Point A}
+pub no_value : {A : Type 0} {x : A} {end left : StepState} {here : Point A}
     → IsAt (gives x) end here left → is_value here ≡ false → ⊥
 no_value at none = absurd (let e : true ≡ false = ap is_value at.0 ∙ none in cc)
 
@@ -16,15 +16,15 @@ value_or other (gives x) = x
 value_or other point = other
 
 -- the value that is given is this
-pub one_value : {A : Type 0} {x y : A} {end left : Left} → IsAt (gives x) end (gives y) left → x ≡ y
+pub one_value : {A : Type 0} {x y : A} {end left : StepState} → IsAt (gives x) end (gives y) left → x ≡ y
 one_value {x = x} at = ap (value_or x) at.0
 
-module _ {A B : Type 0} (others : A → Steps B) (y : B) (end : Left) where
-  abbrev pub Joint : Steps A → Left → Type 0
-  Joint first left = (x : A) × (mid : Left) × Goes (gives x) mid first left
-      × Goes (gives y) end (others x) mid
+module _ {A B : Type 0} (others : A → Steps B) (y : B) (end : StepState) where
+  abbrev pub Joint : Steps A → StepState → Type 0
+  Joint first left = (x : A) × (mid : StepState) × RunTo (gives x) mid first left
+      × RunTo (gives y) end (others x) mid
 
-  pub joint : (first : Steps A) (left : Left) → Goes (gives y) end (and_then first others) left
+  pub joint : (first : Steps A) (left : StepState) → RunTo (gives y) end (and_then first others) left
       → Joint first left
   joint (load name next) left (inl at) = absurd (no_value at refl)
   joint (load name next) left (inr (inl at)) = absurd (no_value at refl)

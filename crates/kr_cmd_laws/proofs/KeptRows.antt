@@ -27,7 +27,7 @@ use Rattle.kr_cmd_steps.specs.Phases.{by_result, configuration, linking_programs
 use Rattle.kr_cmd_steps.specs.Commands.{rewriting}
 use Rattle.kr_cmd_steps.specs.ValueSteps.{value_read, value_sealed, none_kept}
 use Rattle.kr_cmd_steps.specs.Plugins.{borrow_links, make_seeds, settings_programs}
-use Rattle.kr_cmd_steps.specs.Steps.{Steps, borrow_dice, give, settle, write_row, and_then, Point, awaits, amid, refuses, gives, Left, IsAt, Goes, with_said, with_told}
+use Rattle.kr_cmd_steps.specs.Steps.{Steps, borrow_dice, give, settle, write_row, and_then, Point, awaits, amid, refuses, gives, StepState, IsAt, RunTo, with_said, with_told}
 use Rattle.kr_cmd_steps.specs.StoreFiles.{Stored, IsStored, with_row, BeginsWith, HoldsRows}
 use Rattle.kr_cmd_messages.specs.declared.command.Rewriting.{Rewriting}
 use Rattle.kr_cmd_steps.specs.declared.programs.Program.{Program}
@@ -37,7 +37,7 @@ use Rattle.kr_cmd_messages.specs.declared.refusal.Object.TheVariants.{Store}
 use Rattle.kr_cmd_messages.specs.declared.refusal.Outcome.{Outcome}
 use Rattle.kr_cmd_messages.specs.declared.refusal.Refusal.{Refusal}
 use Rattle.kr_cmd_messages.specs.declared.refusal.Refusal.TheVariants.{Limit}
-use Rattle.kr_cmd_steps.proofs.Goes.{Further}
+use Rattle.kr_cmd_steps.proofs.RunTo.{Further}
 use Rattle.kr_cmd_laws.proofs.Behind.{parted}
 use Rattle.kr_cmd_laws.proofs.Parts.{parts}
 use Rattle.kr_cmd_laws.proofs.RowLimits.{driving_refuses}
@@ -49,12 +49,12 @@ use Rattle.kr_cmd_steps.proofs.Tapes.{own_name}
 -- ---- what a tape holds
 
 -- the tape has the rows of the store here
-record Now (name : List ℕ) (store : Stored) (left : Left) : Type 0 where
+record Now (name : List ℕ) (store : Stored) (left : StepState) : Type 0 where
   pub told : Option (List ℕ)
   pub is_told : left.tapes name ≡ option_map Some told
   pub holds : HoldsRows store told
 
-carried : {name : List ℕ} {store : Stored} {one other : Left} → Now name store one
+carried : {name : List ℕ} {store : Stored} {one other : StepState} → Now name store one
     → other.tapes ≡ one.tapes → Now name store other
 carried {name} now e = record {
   told = now.told;
@@ -67,7 +67,7 @@ told_here : (name : List ℕ) (told : Option (List ℕ)) (tape : ToldTape)
 told_here name told tape = ap (λ q. if q then option_map Some told else tape) (own_name name)
 
 -- where it is said that it has them
-kept_here : (name : List ℕ) (store : Stored) (text : List ℕ) (left : Left)
+kept_here : (name : List ℕ) (store : Stored) (text : List ℕ) (left : StepState)
     (told : Option (List ℕ)) → HoldsRows store told
     → Now name store (with_said text (with_told name told left))
 kept_here name store text left told holds = record {
@@ -80,7 +80,7 @@ kept_here name store text left told holds = record {
 
 -- the tape has the rows of the store and puts of some of the live rows up to one; each was reached,
 -- or the steps came short; or a write of the next failed
-pub record Grows (name : List ℕ) (point : Point Outcome) (end : Left) (store : Stored)
+pub record Grows (name : List ℕ) (point : Point Outcome) (end : StepState) (store : Stored)
     (live : List stored.Row) : Type 0 where
   pub met : List stored.Row
   pub rest : List stored.Row
@@ -101,7 +101,7 @@ passed_by (put ∷ puts) row live are = inl are
 some_left : (row : stored.Row) (live : List stored.Row) → row ∷ live ≢ []
 some_left row live none = cc
 
-module _ (name : List ℕ) (p : Publication) (point : Point Outcome) (end : Left) where
+module _ (name : List ℕ) (p : Publication) (point : Point Outcome) (end : StepState) where
   abbrev Grown : Stored → List stored.Row → Type 0
   Grown store live = Grows name point end store live
 
@@ -129,7 +129,7 @@ module _ (name : List ℕ) (p : Publication) (point : Point Outcome) (end : Left
   }
 
   -- no row is left
-  no_row : (store : Stored) (mid : Left) → Now name store mid → end ≡ mid → Grown store []
+  no_row : (store : Stored) (mid : StepState) → Now name store mid → end ≡ mid → Grown store []
   no_row store mid now e = record {
     met = [];
     rest = [];
@@ -137,11 +137,11 @@ module _ (name : List ℕ) (p : Publication) (point : Point Outcome) (end : Left
     told = now.told;
     parts_are = refl;
     added_are = tt;
-    is_told = ap (λ (l : Left). l.tapes name) e ∙ now.is_told;
+    is_told = ap (λ (l : StepState). l.tapes name) e ∙ now.is_told;
     holds = inl (refl, unchanged (λ held. HoldsRows held now.told) store now.holds);
   }
 
-  ends_so : (store : Stored) (live : List stored.Row) {here : Point Outcome} (mid : Left)
+  ends_so : (store : Stored) (live : List stored.Row) {here : Point Outcome} (mid : StepState)
       → Now name store mid → IsShort here → IsAt point end here mid → Grown store live
   ends_so store live mid now short at = no_more store live (subst IsShort (sym at.0) short)
       (subst (Now name store) (sym at.1) now)
@@ -149,7 +149,7 @@ module _ (name : List ℕ) (p : Publication) (point : Point Outcome) (end : Left
   -- what follows grows the store
   abbrev Onward : (Progress → Steps Outcome) → List stored.Row → Type 0
   Onward next live =
-      (at : Progress) (left : Left) → Goes point end (next at) left → Grown at.store live
+      (at : Progress) (left : StepState) → RunTo point end (next at) left → Grown at.store live
 
   module _ (row : stored.Row) (live : List stored.Row) (next : Progress → Steps Outcome)
       (onward : Onward next live) (at : Progress) where
@@ -159,7 +159,7 @@ module _ (name : List ℕ) (p : Publication) (point : Point Outcome) (end : Left
     abbrev Behind : Type 0
     Behind = Grown at.store (row ∷ live)
 
-    short_here : {here : Point Outcome} (mid : Left) → Now name at.store mid → IsShort here
+    short_here : {here : Point Outcome} (mid : StepState) → Now name at.store mid → IsShort here
         → IsAt point end here mid → Behind
     short_here mid now short at_end = ends_so at.store (row ∷ live) mid now short at_end
 
@@ -195,8 +195,8 @@ module _ (name : List ℕ) (p : Publication) (point : Point Outcome) (end : Left
           (append_assoc at.store.rows (New value ∷ []) g.added) g.holds;
     }
 
-    by_room : (value : List ℕ) (mid : Left) → Now name at.store mid → (large : Bool)
-        → Goes point end (and_then (and_then (and_then
+    by_room : (value : List ℕ) (mid : StepState) → Now name at.store mid → (large : Bool)
+        → RunTo point end (and_then (and_then (and_then
         (by_result (if large then Err (Limit limit.Store) else Ok (with_row (New value) at.store)))
         (λ grown. write_row Store name at.store (New value) (give grown)))
         (λ grown. give (one_rewritten (New value) at))) next) mid
@@ -209,7 +209,7 @@ module _ (name : List ℕ) (p : Publication) (point : Point Outcome) (end : Left
       told = told;
       parts_are = refl;
       added_are = tt;
-      is_told = ap (λ (l : Left). l.tapes name) e.1 ∙ told_here name told (mid.tapes name);
+      is_told = ap (λ (l : StepState). l.tapes name) e.1 ∙ told_here name told (mid.tapes name);
       holds = inr (inr (
         subst (IsTorn Store name) (sym e.0) refl,
         some_left row live,
@@ -219,45 +219,45 @@ module _ (name : List ℕ) (p : Publication) (point : Point Outcome) (end : Left
     by_room value mid now false (inr (told, holds, goes)) =
         put_behind value (onward (one_rewritten (New value) at) _ goes)
 
-    by_value : (value : Option (List ℕ)) (mid : Left) → Now name at.store mid
-        → Goes point end (and_then (replacing name p row at value) next) mid → Behind
+    by_value : (value : Option (List ℕ)) (mid : StepState) → Now name at.store mid
+        → RunTo point end (and_then (replacing name p row at value) next) mid → Behind
     by_value None mid now goes = passed (onward (one_left at) mid goes)
     by_value (Some value) mid now (inl e) = short_here mid now tt e
     by_value (Some value) mid now (inr (u, v, goes)) = by_room value mid now
         (nat_lt store_limit
         (length (file_bytes at.store.format (at.store.rows ++ New value ∷ [])))) goes
 
-    by_size : (plain : List ℕ) (mid : Left) → Now name at.store mid → (long : Bool)
-        → Goes point end (and_then (resealing long name p row plain at) next) mid → Behind
+    by_size : (plain : List ℕ) (mid : StepState) → Now name at.store mid → (long : Bool)
+        → RunTo point end (and_then (resealing long name p row plain at) next) mid → Behind
     by_size plain mid now true goes = passed (onward (one_left at) mid goes)
     by_size plain mid now false goes =
         let who = writer_of (list_of p.rows row.resource) in
         let sealed = value_sealed p.seeds who row.path plain in
         elim (parts (λ value. and_then (replacing name p row at value) next) point end sealed mid
         (sealed_reads p.seeds who row.path plain)
-        (subst (λ s. Goes point end s mid) (regroup sealed (replacing name p row at) next) goes)) [
+        (subst (λ s. RunTo point end s mid) (regroup sealed (replacing name p row at) next) goes)) [
           | inl e ↦ no_more at.store (row ∷ live) e.0 (carried now e.1)
           | inr m ↦ by_value m.0 m.1 (carried now m.2) m.3
         ]
 
-    by_data : (plain : List ℕ) (mid : Left) → Now name at.store mid → (stale : Bool)
-        → Goes point end (and_then (row_data name p row at plain stale) next) mid → Behind
+    by_data : (plain : List ℕ) (mid : StepState) → Now name at.store mid → (stale : Bool)
+        → RunTo point end (and_then (row_data name p row at plain stale) next) mid → Behind
     by_data plain mid now false goes = passed (onward (one_fresh at) mid goes)
     by_data plain mid now true (inl e) = short_here mid now tt e
     by_data plain mid now true (inr (u, v, goes)) =
         by_size plain mid now (nat_lt data_limit (length plain)) goes
 
-    by_read : (read : Result Opened ValueNo) (mid : Left) → Now name at.store mid
-        → Goes point end (and_then (row_by name p row at read) next) mid → Behind
+    by_read : (read : Result Opened ValueNo) (mid : StepState) → Now name at.store mid
+        → RunTo point end (and_then (row_by name p row at read) next) mid → Behind
     by_read (Ok opened) mid now goes = by_data opened.plain mid now opened.stale goes
     by_read (Err why) mid now goes = passed (onward (one_left at) mid goes)
 
   -- the row's value is read, with the seeds that are kept
   by_row : (row : stored.Row) (live : List stored.Row)
       (next : CacheState → Progress → Steps Outcome)
-      (onward : (after : CacheState) → Onward (next after) live) (at : Progress) (mid : Left)
+      (onward : (after : CacheState) → Onward (next after) live) (at : Progress) (mid : StepState)
       → Now name at.store mid → (kept : CacheState)
-      → Goes point end
+      → RunTo point end
       (and_then (row_steps name p row kept at) (λ done. next done.1 done.0)) mid
       → Grown at.store (row ∷ live)
   by_row row live next onward at mid now kept goes =
@@ -268,10 +268,10 @@ module _ (name : List ℕ) (p : Publication) (point : Point Outcome) (end : Left
       λ read. and_then (row_by name p row at read.0) (λ done. give (done, read.1)) in
       elim (parts (λ read. and_then (behind read) others) point end value mid
       (value_reads p.seeds list row.path row.stored kept)
-      (subst (λ s. Goes point end s mid) (regroup value behind others) goes)) [
+      (subst (λ s. RunTo point end s mid) (regroup value behind others) goes)) [
         | inl e ↦ no_more at.store (row ∷ live) e.0 (carried now e.1)
         | inr m ↦ by_read row live (next m.0.1) (onward m.0.1) at m.0.0 m.1 (carried now m.2)
-            (subst (λ s. Goes point end s m.1)
+            (subst (λ s. RunTo point end s m.1)
             (regroup (row_by name p row at m.0.0) (λ done. give (done, m.0.1)) others) m.3)
       ]
 
@@ -293,7 +293,7 @@ IsLimited (refuses why) = (which : limits.Limit) × (why ≡ Limit which)
 IsLimited point = Unit {0}
 
 -- the drive began
-pub record Drove (name : List ℕ) (point : Point Outcome) (end left : Left) : Type 0 where
+pub record Drove (name : List ℕ) (point : Point Outcome) (end left : StepState) : Type 0 where
   pub bytes : List ℕ
   pub store : Stored
   pub live : List stored.Row
@@ -303,27 +303,27 @@ pub record Drove (name : List ℕ) (point : Point Outcome) (end left : Left) : T
   pub grows : Grows name point end store live
   pub limited : IsLimited point
 
-abbrev pub MayDrive : (name : List ℕ) → Point Outcome → (end left : Left) → Type 0
+abbrev pub MayDrive : (name : List ℕ) → Point Outcome → (end left : StepState) → Type 0
 MayDrive name point end left =
     (IsShort point × (end.tapes ≡ left.tapes)) ⊎ Drove name point end left
 
-module _ (words : Rewriting) (point : Point Outcome) (end left : Left) where
+module _ (words : Rewriting) (point : Point Outcome) (end left : StepState) where
   abbrev Kept : Type 0
   Kept = MayDrive words.store point end left
 
   -- it ends before the first row
-  untouched : {here : Point Outcome} {mid : Left} → mid.tapes ≡ left.tapes → IsShort here
+  untouched : {here : Point Outcome} {mid : StepState} → mid.tapes ≡ left.tapes → IsShort here
       → IsAt point end here mid → Kept
   untouched same short at =
-      inl (subst IsShort (sym at.0) short, ap (λ (l : Left). l.tapes) at.1 ∙ same)
+      inl (subst IsShort (sym at.0) short, ap (λ (l : StepState). l.tapes) at.1 ∙ same)
 
-  ended : (mid : Left) → mid.tapes ≡ left.tapes → IsShort point × (end.tapes ≡ mid.tapes) → Kept
+  ended : (mid : StepState) → mid.tapes ≡ left.tapes → IsShort point × (end.tapes ≡ mid.tapes) → Kept
   ended mid same e = inl (e.0, e.1 ∙ same)
 
   -- a drive refuses at a limit alone
   limited_by : (name : List ℕ) (p : Publication) (live : List stored.Row) (at : Progress)
-      (kept : CacheState) (mid : Left) (q : Point Outcome)
-      → Goes q end (driving name p live kept at) mid → IsLimited q
+      (kept : CacheState) (mid : StepState) (q : Point Outcome)
+      → RunTo q end (driving name p live kept at) mid → IsLimited q
   limited_by name p live at kept mid (refuses why) goes =
       driving_refuses (λ cause. (which : limits.Limit) × (cause ≡ Limit which))
       (limit.Store, refl) name p live kept at why end mid goes
@@ -337,8 +337,8 @@ module _ (words : Rewriting) (point : Point Outcome) (end left : Left) where
         driving words.store (record { rows = rows; seeds = seeds }) live none_kept
         (nothing_done base))
 
-    at_start : (seeds : List SeedRow) (mid : Left) → mid.tapes ≡ left.tapes
-        → Goes point end (behind_seeds seeds) mid → Kept
+    at_start : (seeds : List SeedRow) (mid : StepState) → mid.tapes ≡ left.tapes
+        → RunTo point end (behind_seeds seeds) mid → Kept
     at_start seeds mid same (inl e) = untouched same tt e
     at_start seeds mid same (inr (Err why, none, e)) = untouched same tt e
     at_start seeds mid same (inr (Ok u, may, goes)) = inr (record {
@@ -354,8 +354,8 @@ module _ (words : Rewriting) (point : Point Outcome) (end left : Left) where
           (nothing_done base) none_kept mid point goes;
     })
 
-    at_seeds : (mid : Left) → mid.tapes ≡ left.tapes
-        → Goes point end (rewriting_by words.store rows base live) mid → Kept
+    at_seeds : (mid : StepState) → mid.tapes ≡ left.tapes
+        → RunTo point end (rewriting_by words.store rows base live) mid → Kept
     at_seeds mid same (inl e) = untouched same tt e
     at_seeds mid same (inr (u, v, goes)) = elim (parts behind_seeds point end
         (make_seeds (plugin_order rows)) mid (seeds_read (plugin_order rows)) goes) [
@@ -363,15 +363,15 @@ module _ (words : Rewriting) (point : Point Outcome) (end left : Left) where
           | inr m ↦ at_start m.0 m.1 (m.2 ∙ same) m.3
         ]
 
-    at_links : (links : List Program) (mid : Left) → mid.tapes ≡ left.tapes
-        → Goes point end (borrow_links links (rewriting_by words.store rows base live)) mid → Kept
+    at_links : (links : List Program) (mid : StepState) → mid.tapes ≡ left.tapes
+        → RunTo point end (borrow_links links (rewriting_by words.store rows base live)) mid → Kept
     at_links [] mid same goes = at_seeds mid same goes
     at_links (program ∷ links) mid same (inl e) = untouched same tt e
     at_links (program ∷ links) mid same (inr (inl e)) = untouched same tt e
     at_links (program ∷ links) mid same (inr (inr goes)) = at_links links _ same goes
 
-    at_room : (room : Result ⊤ Refusal) (mid : Left) → mid.tapes ≡ left.tapes
-        → Goes point end (and_then (by_result room) (λ u.
+    at_room : (room : Result ⊤ Refusal) (mid : StepState) → mid.tapes ≡ left.tapes
+        → RunTo point end (and_then (by_result room) (λ u.
         borrow_dice 0 (borrow_links programs (rewriting_by words.store rows base live)))) mid
         → Kept
     at_room (Err why) mid same e = untouched same tt e
@@ -379,8 +379,8 @@ module _ (words : Rewriting) (point : Point Outcome) (end left : Left) where
     at_room (Ok u) mid same (inr (inl e)) = untouched same tt e
     at_room (Ok u) mid same (inr (inr goes)) = at_links programs _ same goes
 
-  on_tape : (rows : List ConfigEntry) (programs : List Program) (mid : Left) → mid.tapes ≡ left.tapes
-      → Goes point end (rewriting_on words.store rows programs) mid → Kept
+  on_tape : (rows : List ConfigEntry) (programs : List Program) (mid : StepState) → mid.tapes ≡ left.tapes
+      → RunTo point end (rewriting_on words.store rows programs) mid → Kept
   on_tape rows programs mid same (inl e) = untouched same tt e
   on_tape rows programs mid same (inr (bytes, agrees, inl e)) = untouched same tt e
   on_tape rows programs mid same (inr (bytes, agrees, inr (Err why, is, e))) =
@@ -393,12 +393,12 @@ module _ (words : Rewriting) (point : Point Outcome) (end left : Left) where
       (subst (λ (tapes : List ℕ → ToldTape). Agrees (tapes words.store) (Some bytes)) same agrees)
       is live listing (within_journal live) _ same goes
 
-module _ (words : Rewriting) (point : Point Outcome) (end left : Left) where
+module _ (words : Rewriting) (point : Point Outcome) (end left : StepState) where
   abbrev settling_it : Outcome → Steps Outcome
   settling_it made = settle Store words.store (give made)
 
   -- the settling leaves it so
-  as_driven : (x : Outcome) (mid : Left) → end.tapes ≡ mid.tapes → IsLimited point
+  as_driven : (x : Outcome) (mid : StepState) → end.tapes ≡ mid.tapes → IsLimited point
       → Kept words (gives x) mid left → Kept words point end left
   as_driven x mid e limited (inl none) = absurd none.0
   as_driven x mid e limited (inr d) = inr (record {
@@ -424,12 +424,12 @@ module _ (words : Rewriting) (point : Point Outcome) (end left : Left) where
     };
   })
 
-  ended_so : (q : Point Outcome) (mid : Left) → (point ≡ q) × (end ≡ mid) → Kept words q mid left
+  ended_so : (q : Point Outcome) (mid : StepState) → (point ≡ q) × (end ≡ mid) → Kept words q mid left
       → Kept words point end left
   ended_so q mid at d = subst (λ l. Kept words point l left) (sym at.1)
       (subst (λ r. Kept words r mid left) (sym at.0) d)
 
-  settled_on : (q : Point Outcome) (mid : Left) → Kept words q mid left
+  settled_on : (q : Point Outcome) (mid : StepState) → Kept words q mid left
       → Further point end settling_it q mid → Kept words point end left
   settled_on (awaits call) mid d at = ended_so (awaits call) mid at d
   settled_on amid mid d at = ended_so amid mid at d
@@ -439,8 +439,8 @@ module _ (words : Rewriting) (point : Point Outcome) (end left : Left) where
   settled_on (gives x) mid d (inr at) =
       as_driven x mid (ap (λ l. l.tapes) at.1) (subst IsLimited (sym at.0) tt) d
 
-  at_tape : (rows : List ConfigEntry) (programs : List Program) (mid : Left) → mid.tapes ≡ left.tapes
-      → Goes point end
+  at_tape : (rows : List ConfigEntry) (programs : List Program) (mid : StepState) → mid.tapes ≡ left.tapes
+      → RunTo point end
       (settled_for Store words.store ToWrite (rewriting_on words.store rows programs)) mid
       → Kept words point end left
   at_tape rows programs mid same (inl e) = untouched words point end left same tt e
@@ -451,7 +451,7 @@ module _ (words : Rewriting) (point : Point Outcome) (end left : Left) where
       let r = parted settling_it point end (rewriting_on words.store rows programs) _ goes in
       settled_on r.0 r.1 (on_tape words r.0 r.1 left rows programs _ same r.2) r.3
 
-  pub rows_kept : Goes point end (rewriting words) left → Kept words point end left
+  pub rows_kept : RunTo point end (rewriting words) left → Kept words point end left
   rows_kept goes = elim (parts (λ rows. and_then (linking_programs words.options rows)
       (λ programs. settled_for Store words.store ToWrite (rewriting_on words.store rows programs)))
       point end
@@ -469,7 +469,7 @@ module _ (words : Rewriting) (point : Point Outcome) (end left : Left) where
 
 -- ---- where the call ended
 
-module _ (name : List ℕ) (point : Point Outcome) (end left : Left) (is : ToldTape)
+module _ (name : List ℕ) (point : Point Outcome) (end left : StepState) (is : ToldTape)
     (before count status : ℕ) (d : Drove name point end left) where
   abbrev Held : Type 0
   Held = HoldsRows (with_rows d.grows.added d.store) d.grows.told

@@ -6,7 +6,7 @@ use Rattle.kr_config.specs.Kept.{ConfigEntry}
 use Rattle.kr_kms.specs.Outside.{Outside}
 use Rattle.kr_kms.specs.declared.world.Access.TheVariants.{ToRead, ToWrite, ToMake}
 use Rattle.kr_cmd_steps.specs.Afterwards.{AreLeft, IsSettledLast, IsUngrown, LeavesTapes, MayEndAmidRows, OthersStay, Settles, ToldTape, new_store}
-use Rattle.kr_cmd_steps.specs.Around.{Around, with_what_is_said, Ends, MayLack, Reaches, faults_at, left_of}
+use Rattle.kr_cmd_steps.specs.Environment.{Environment, with_what_is_said, Ends, MayLack, StepsEndAt, faults_at, step_state}
 use Rattle.kr_cmd_steps.specs.Phases.{configuration, input_of, linking_programs, settled_for, stored_on, tape_for}
 use Rattle.kr_cmd_steps.specs.StoreSteps.{copied_into, migrating_into, sealed_into, source_on, stored_into, target_on}
 use Rattle.kr_cmd_steps.specs.Commands.{migrating, putting, rewriting, steps}
@@ -14,7 +14,7 @@ use Rattle.kr_cmd_steps.specs.RewriteSteps.{rewriting_on}
 use Rattle.kr_cmd_messages.specs.Message.{line_of, status_of, status_of_done, status_of_refusal}
 use Rattle.kr_cmd_steps.specs.Ran.{Answers, Closes, EndsAll, WroteNothing, IsStop, ReachesEnd, Reports, ReportsOf, SaysNothing, StopsAtOnce, Writes}
 use Rattle.kr_cmd_messages.specs.Receipts.{Receipt, Tells}
-use Rattle.kr_cmd_steps.specs.Steps.{and_then, Call, lending, settling, writing, Point, awaits, amid, refuses, gives, Left, Goes}
+use Rattle.kr_cmd_steps.specs.Steps.{and_then, Call, lending, settling, writing, Point, awaits, amid, refuses, gives, StepState, RunTo}
 use Rattle.kr_cmd_steps.specs.StoreFiles.{BeginsWith, HoldsRows}
 use Rattle.kr_cmd_messages.specs.declared.command.Command.{Command}
 use Rattle.kr_cmd_messages.specs.declared.command.Command.TheVariants.{Put, Migrate, Rewrite}
@@ -58,16 +58,16 @@ lacked_some : {status : ℕ} → Fits (Err NoMemory) status → status ≢ 0
 lacked_some (inl e) zero_is = omega (arith, e, zero_is)
 lacked_some (inr e) zero_is = omega (arith, e, zero_is)
 
-module _ (words : Conversion) (store : List ℕ) (old new : Around) (status : ℕ) where
+module _ (words : Conversion) (store : List ℕ) (old new : Environment) (status : ℕ) where
   abbrev Leaves : Type 0
   Leaves = LeavesTapes (Put words store) status old.world new.world
 
   abbrev Grew : Point Outcome → Type 0
   Grew p = IsGrown words store p old.world.tapes.told new.world.tapes.told
 
-  grew : {p : Point Outcome} → Reaches (putting words store) (left_of old) new p → Grew p
+  grew : {p : Point Outcome} → StepsEndAt (putting words store) (step_state old) new p → Grew p
   grew {p} r = subst (λ t. IsGrown words store p old.world.tapes.told t) (sym r.stays.tapes)
-      (put_grows words store p r.end (left_of old) r.goes)
+      (put_grows words store p r.end (step_state old) r.goes)
 
   with_value : (x : Outcome) → Grew (gives x)
       → (status ≡ status_of_done x.done) ⊎ (status ≡ 4) → Leaves
@@ -88,7 +88,7 @@ module _ (words : Conversion) (store : List ℕ) (old new : Around) (status : �
   at_call call (others, inr (inr (is, more))) torn unsettled some =
       (others, inr (inr (inr (unsettled is), more)))
 
-  put_left : (made : Result Outcome Stop) → Ends (putting words store) (left_of old) old new made
+  put_left : (made : Result Outcome Stop) → Ends (putting words store) (step_state old) old new made
       → Fits made status → Leaves
   put_left (Ok x) r s = with_value x (grew r) s
   put_left (Err (Words why)) r s = absurd r
@@ -112,19 +112,19 @@ module _ (words : Conversion) (store : List ℕ) (old new : Around) (status : �
 
 -- ---- migrate
 
-module _ (words : Migration) (old new : Around) (status : ℕ) where
+module _ (words : Migration) (old new : Environment) (status : ℕ) where
   abbrev After : Type 0
   After = LeavesTapes (Migrate words) status old.world new.world
 
   abbrev Comes : Point Outcome → Type 0
-  Comes p = Migrates words p (left_of old) new.world.tapes.told
+  Comes p = Migrates words p (step_state old) new.world.tapes.told
 
-  comes : {p : Point Outcome} → Reaches (migrating words) (left_of old) new p → Comes p
-  comes {p} r = subst (λ t. Migrates words p (left_of old) t) (sym r.stays.tapes)
-      (migrate_leaves words p r.end (left_of old) r.goes)
+  comes : {p : Point Outcome} → StepsEndAt (migrating words) (step_state old) new p → Comes p
+  comes {p} r = subst (λ t. Migrates words p (step_state old) t) (sym r.stays.tapes)
+      (migrate_leaves words p r.end (step_state old) r.goes)
 
   -- so many rows are copied
-  copied_so : {p : Point Outcome} (m : IsMigrated words p (left_of old) new.world.tapes.told)
+  copied_so : {p : Point Outcome} (m : IsMigrated words p (step_state old) new.world.tapes.told)
       → ((status ≡ 4) × Rose (old.world.tapes.faults words.to) (new.world.tapes.faults words.to)
       × (m.is_left.0.rest ≢ []) × BeginsWith (new_store m.is_left.0.copied) m.is_left.0.told)
       ⊎ (((status ≡ 0) ⊎ (status ≡ 4)) × (m.is_left.0.rest ≡ [])
@@ -211,7 +211,7 @@ module _ (words : Migration) (old new : Around) (status : ℕ) where
   lacked_so (inr e) = inl e
 
   migrate_left : (made : Result Outcome Stop)
-      → Ends (migrating words) (left_of old) old new made → Fits made status → After
+      → Ends (migrating words) (step_state old) old new made → Fits made status → After
   migrate_left (Ok x) r s = given_so x (comes r) s
   migrate_left (Err (Words why)) r s = absurd r
   migrate_left (Err (Refused why)) r s =
@@ -283,7 +283,7 @@ module _ (status : ℕ) where
   any_end (gives x) (inl e) limited = inl (is_done x.done e)
   any_end (gives x) (inr e) limited = inr (inl e)
 
-module _ (words : Rewriting) (old new : Around) (status : ℕ) where
+module _ (words : Rewriting) (old new : Environment) (status : ℕ) where
   abbrev Stay : Type 0
   Stay = LeavesTapes (Rewrite words) status old.world new.world
 
@@ -297,18 +297,18 @@ module _ (words : Rewriting) (old new : Around) (status : ℕ) where
   abbrev Torn : Point Outcome → Type 0
   Torn point = IsTorn Store words.store point → (status ≡ 4) × Rose before now
 
-  by_point : (point : Point Outcome) (end : Left) → Goes point end (rewriting words) (left_of old)
+  by_point : (point : Point Outcome) (end : StepState) → RunTo point end (rewriting words) (step_state old)
       → new.world.tapes.told ≡ end.tapes → SaysOf status point → Torn point → Stay
   by_point point end goes tapes_are says torn = (
     subst (λ t. OthersStay words.store old.world.tapes.told t) (sym tapes_are)
-        (others_stay point end (rewriting words) (left_of old) words.store
+        (others_stay point end (rewriting words) (step_state old) words.store
         (rewriting_is_on words) goes),
-    elim (rows_kept words point end (left_of old) goes) [
+    elim (rows_kept words point end (step_state old) goes) [
       | inl none ↦ inl (
         short_some status point says none.0,
         ap (λ (t : List ℕ → ToldTape). t words.store) (tapes_are ∙ none.1),
       )
-      | inr drove ↦ inr (keeps_rows words.store point end (left_of old)
+      | inr drove ↦ inr (keeps_rows words.store point end (step_state old)
           (new.world.tapes.told words.store) before now status drove
           (ap (λ (t : List ℕ → ToldTape). t words.store) tapes_are) torn
           (short_amid status point says drove.limited) (any_end status point says drove.limited))
@@ -320,7 +320,7 @@ module _ (words : Rewriting) (old new : Around) (status : ℕ) where
   IsLost point =
       point ≡ awaits (settling Store words.store) → (status ≡ 4) × Rose before now
 
-  at_point : (point : Point Outcome) → ReachesEnd (Rewrite words) (left_of old) new point
+  at_point : (point : Point Outcome) → ReachesEnd (Rewrite words) (step_state old) new point
       → SaysOf status point → Torn point → IsLost point → Stay
   at_point point r says torn lost = by_close r.closes
     where
@@ -339,7 +339,7 @@ module _ (words : Rewriting) (old new : Around) (status : ℕ) where
           (says_fault status gone.0 r.stop) (λ write. gone)
 
   rewrite_left : (made : Result Outcome Stop)
-      → EndsAll (Rewrite words) (left_of old) old new made → Fits made status → Stay
+      → EndsAll (Rewrite words) (step_state old) old new made → Fits made status → Stay
   rewrite_left (Ok x) r s = at_point (gives x) r s (λ e. absurd e)
       (λ p. absurd (let e : gives x ≡ awaits (settling Store words.store) = p in cc))
   rewrite_left (Err (Words why)) r s = absurd r
@@ -360,15 +360,15 @@ module _ (words : Rewriting) (old new : Around) (status : ℕ) where
 
 -- ---- commands
 
-module _ (command : Command) (is : IsReader command) (old : Around) where
-  reaches_left : {new : Around} {point : Point Outcome}
-      → Reaches (steps command) (left_of old) new point
+module _ (command : Command) (is : IsReader command) (old : Environment) where
+  reaches_left : {new : Environment} {point : Point Outcome}
+      → StepsEndAt (steps command) (step_state old) new point
       → new.world.tapes.told ≡ old.world.tapes.told
   reaches_left {new} {point} r = r.stays.tapes
-      ∙ leaves_tapes point r.end (steps command) (left_of old) (command_reads command is) r.goes
+      ∙ leaves_tapes point r.end (steps command) (step_state old) (command_reads command is) r.goes
 
-  reader_left : (new : Around) (made : Result Outcome Stop)
-      → Ends (steps command) (left_of old) old new made
+  reader_left : (new : Environment) (made : Result Outcome Stop)
+      → Ends (steps command) (step_state old) old new made
       → new.world.tapes.told ≡ old.world.tapes.told
   reader_left new (Ok x) r = reaches_left r
   reader_left new (Err (Words why)) r = absurd r
@@ -377,25 +377,25 @@ module _ (command : Command) (is : IsReader command) (old : Around) where
   reader_left new (Err NoMemory) (inl (call, may, r)) = reaches_left r
   reader_left new (Err NoMemory) (inr r) = reaches_left r
 
-ends_left : (command : Command) (old new : Around) (status : ℕ) (made : Result Outcome Stop)
-    → EndsAll command (left_of old) old new made → Fits made status
+ends_left : (command : Command) (old new : Environment) (status : ℕ) (made : Result Outcome Stop)
+    → EndsAll command (step_state old) old new made → Fits made status
     → LeavesTapes command status old.world new.world
 ends_left (Put words store) old new status made r s =
     put_left words store old new status made
-    (plain_ends (Put words store) (λ name is. is) (left_of old) old new made r) s
+    (plain_ends (Put words store) (λ name is. is) (step_state old) old new made r) s
 ends_left (Migrate words) old new status made r s =
     migrate_left words old new status made
-    (plain_ends (Migrate words) (λ name is. is) (left_of old) old new made r) s
+    (plain_ends (Migrate words) (λ name is. is) (step_state old) old new made r) s
 ends_left (Rewrite words) old new status made r s =
     rewrite_left words old new status made r s
 ends_left command old new status made r s = reader_left command tt old new made
-    (plain_ends command (λ name is. is) (left_of old) old new made r)
+    (plain_ends command (λ name is. is) (step_state old) old new made r)
 
 -- ---- at status 0, and wherever anything was printed, what was written is settled
 
-module _ (new : Around) (x : Outcome) where
-  put_settles : (words : Conversion) (store : List ℕ) (end left : Left)
-      → Goes (gives x) end (putting words store) left → IsSettledLast store end.asked
+module _ (new : Environment) (x : Outcome) where
+  put_settles : (words : Conversion) (store : List ℕ) (end left : StepState)
+      → RunTo (gives x) end (putting words store) left → IsSettledLast store end.asked
   put_settles words store end left goes =
       let rows = went_on (λ rows. and_then (linking_programs words.options rows) (λ programs.
       and_then (input_of Encrypt) (stored_into words store rows programs))) x end
@@ -408,16 +408,16 @@ module _ (new : Around) (x : Outcome) where
       settled_last Store store ToMake (and_then (stored_on Store store)
       (sealed_into words store rows.0 programs.0 bytes.0)) x end bytes.1 bytes.2
 
-  migrate_settles : (words : Migration) (end left : Left)
-      → Goes (gives x) end (migrating words) left → IsSettledLast words.to end.asked
+  migrate_settles : (words : Migration) (end left : StepState)
+      → RunTo (gives x) end (migrating words) left → IsSettledLast words.to end.asked
   migrate_settles words end left goes =
       let rows = went_on (λ rows. tape_for words.store ToRead
       (and_then (source_on words.store) (migrating_into words.to rows))) x end
       (configuration words.config) left goes in
       by_tape rows.0 rows.1 rows.2
     where
-      by_tape : (rows : List ConfigEntry) (mid : Left)
-          → Goes (gives x) end (tape_for words.store ToRead
+      by_tape : (rows : List ConfigEntry) (mid : StepState)
+          → RunTo (gives x) end (tape_for words.store ToRead
           (and_then (source_on words.store) (migrating_into words.to rows))) mid
           → IsSettledLast words.to end.asked
       by_tape rows mid (inl at) = absurd (let e : gives x ≡ amid = at.0 in cc)
@@ -430,8 +430,8 @@ module _ (new : Around) (x : Outcome) where
           settled_last Target words.to ToMake (and_then (target_on words.to)
           (copied_into words.to rows source.0)) x end source.1 source.2
 
-  rewrite_settles : (words : Rewriting) (end left : Left)
-      → Goes (gives x) end (rewriting words) left → IsSettledLast words.store end.asked
+  rewrite_settles : (words : Rewriting) (end left : StepState)
+      → RunTo (gives x) end (rewriting words) left → IsSettledLast words.store end.asked
   rewrite_settles words end left goes =
       let rows = went_on (λ rows. and_then (linking_programs words.options rows)
       (λ programs. settled_for Store words.store ToWrite
@@ -442,7 +442,7 @@ module _ (new : Around) (x : Outcome) where
       settled_last Store words.store ToWrite (rewriting_on words.store rows.0 programs.0) x end
       programs.1 programs.2
 
-  value_settles : (command : Command) (left : Left) → Reaches (steps command) left new (gives x)
+  value_settles : (command : Command) (left : StepState) → StepsEndAt (steps command) left new (gives x)
       → Settles command new.world
   value_settles (Put words store) left r = subst (IsSettledLast store) (sym r.stays.asked)
       (put_settles words store r.end left r.goes)
@@ -452,11 +452,11 @@ module _ (new : Around) (x : Outcome) where
       (rewrite_settles words r.end left r.goes)
   value_settles command left r = tt
 
-settles_so : (command : Command) (old new : Around) (status : ℕ) (made : Result Outcome Stop)
-    → EndsAll command (left_of old) old new made → Fits made status → status ≡ 0
+settles_so : (command : Command) (old new : Environment) (status : ℕ) (made : Result Outcome Stop)
+    → EndsAll command (step_state old) old new made → Fits made status → status ≡ 0
     → Settles command new.world
 settles_so command old new status (Ok x) r s zero_is =
-    value_settles new x command (left_of old) (value_end r)
+    value_settles new x command (step_state old) (value_end r)
 settles_so command old new status (Err (Words why)) r s zero_is = absurd r
 settles_so command old new status (Err (Refused why)) r s zero_is =
     absurd (refused_some why s zero_is)
@@ -471,15 +471,15 @@ report_settles (Rewrite words) name world is settled =
     subst (λ n. IsSettledLast n world.asked) is settled
 report_settles command name world is settled = absurd is
 
-nothing_said : (stop : Point Outcome) (end : Left) → IsStop stop → SaysNothing stop end
+nothing_said : (stop : Point Outcome) (end : StepState) → IsStop stop → SaysNothing stop end
     → end.said ≡ []
 nothing_said (gives x) end stops none = absurd stops
 nothing_said other end stops none = none
 
 -- what a command says where it stops is settled, or it's nothing
-module _ (command : Command) (old new : Around) where
+module _ (command : Command) (old new : Environment) where
   said_at : (point : Point Outcome) → IsStop point
-      → ReachesEnd command (left_of old) new point → (new.said ≡ []) ⊎ Settles command new.world
+      → ReachesEnd command (step_state old) new point → (new.said ≡ []) ⊎ Settles command new.world
   said_at point stops r = by_close r.closes
     where
       by_close : Closes command r.stop r.end point r.last
@@ -491,7 +491,7 @@ module _ (command : Command) (old new : Around) where
       by_close (inr (stopped, (name, is, inr (p, e)))) =
           inl (r.stays.said ∙ ap (λ l. l.said) e)
 
-  said_settled : (stop : Stop) → EndsAll command (left_of old) old new (Err stop)
+  said_settled : (stop : Stop) → EndsAll command (step_state old) old new (Err stop)
       → (new.said ≡ []) ⊎ Settles command new.world
   said_settled (Words why) r = absurd r
   said_settled (Refused why) r = said_at (refuses why) tt r
@@ -499,12 +499,12 @@ module _ (command : Command) (old new : Around) where
   said_settled NoMemory (inl (call, may, r)) = said_at (awaits call) tt r
   said_settled NoMemory (inr r) = said_at amid tt r
 
-printed_settled : (command : Command) (old new : Around) (said : List ℕ) (output : Receipt)
+printed_settled : (command : Command) (old new : Environment) (said : List ℕ) (output : Receipt)
     (made : Result Outcome Stop) (result : Result Done Stop)
-    → EndsAll command (left_of old) old (with_what_is_said said new) made
+    → EndsAll command (step_state old) old (with_what_is_said said new) made
     → Writes said output made result → WroteNothing output ⊎ Settles command new.world
 printed_settled command old new said output (Ok x) result r w =
-    inr (value_settles (with_what_is_said said new) x command (left_of old) (value_end r))
+    inr (value_settles (with_what_is_said said new) x command (step_state old) (value_end r))
 printed_settled command old new said output (Err stop) result r w =
     elim (said_settled command old (with_what_is_said said new) stop r) [
       | inl none ↦ inl (subst (λ text. Reports text output) none w.1)
@@ -554,13 +554,13 @@ is_status : (errors : Receipt) (status : ℕ) (result : Result Done Stop)
 is_status errors status result (inl t) = inl t.0
 is_status errors status result (inr t) = inr t.0
 
-pub tapes_left : (words : List (List ℕ)) (old new : Around) (output errors : Receipt) (status : ℕ)
+pub tapes_left : (words : List (List ℕ)) (old new : Environment) (output errors : Receipt) (status : ℕ)
     (result : Result Done Stop) → Answers words old new output result
     → Tells (line_of result) (status_of result) errors status
     → AreLeft words old new output status
 tapes_left words old new output errors status result (inl (stops, same)) t = inl (
   stopped words status result stops (is_status errors status result t),
-  ap (λ (a : Around). a.world.tapes.told) same.0,
+  ap (λ (a : Environment). a.world.tapes.told) same.0,
   same.1,
 )
 tapes_left words old new output errors status result (inr (said, made, did, w)) t = inr (

@@ -207,7 +207,7 @@ module _ (path : List ℕ) (cache after : CacheState) (es : List Exchange) where
       went_by old new es f.1.1 (went_one old new (event.Fetch path) answer.Absent f.0.absent)
   found_went p old new (Ok (read.Value revision plain stale)) f = row_went p old new f.0
       (Ok (record { plain = plain; stale = stale })) f.1.found f.1.reads
-  found_went p old new (Err (refusal.Refused why)) f =
+  found_went p old new (Err (refusal.Value why)) f =
       row_went p old new f.0 (Err (unsealing.Refused why)) f.1.found f.1.reads
   found_went p old new (Err (refusal.PluginFailed name)) f =
       row_went p old new f.0 (Err (unsealing.PluginFailed name)) f.1.found f.1.reads

@@ -16,10 +16,10 @@ use Rattle.kr_cmd_messages.specs.declared.refusal.Refusal.{Refusal}
 use Rattle.kr_cmd_messages.specs.declared.refusal.Stop.{Stop}
 use Rattle.kr_cmd_messages.specs.declared.refusal.Stop.TheVariants.{Fault, NoMemory, Refused, Words}
 use Rattle.kr_cmd_steps.proofs.Ends.{decided_stop}
-use Rattle.kr_cmd_steps.specs.Around.{Around, left_of, with_what_is_said}
+use Rattle.kr_cmd_steps.specs.Environment.{Environment, step_state, with_what_is_said}
 use Rattle.kr_cmd_steps.specs.Commands.{steps}
 use Rattle.kr_cmd_steps.specs.Ran.{Answers, Closes, ComesSaying, Did, IsUntouched, ReachesEnd, Reports, StopsAtOnce, Writes, end_at}
-use Rattle.kr_cmd_steps.specs.Steps.{Goes, Left, Point, gives, refuses}
+use Rattle.kr_cmd_steps.specs.Steps.{RunTo, StepState, Point, gives, refuses}
 use Rattle.kr_cmd_steps.specs.Telling.{AnswersOnce, IsTold, MayEnd}
 use Rattle.kr_cmd_laws.specs.Results.{CompleteCalls, EndsAsItsSteps, Execution, HasOneResult, HoldAlike, IsDecidedBySteps, IsToldToo, NoneFailed, OneResult, StopsAtWords, TellsToo, WentWell}
 use Rattle.kr_cmd_laws.proofs.LastSteps.{IsLast}
@@ -42,7 +42,7 @@ module _ (words : List (List ℕ)) (x : Execution) where
   Told r = (x.status ≡ status_of r) × Appends x.errors.old x.errors.new (line_of r)
 
   -- around it behind, with what was said
-  abbrev Now : List ℕ → Around
+  abbrev Now : List ℕ → Environment
   Now said = with_what_is_said said x.new
 
   -- a value, a refusal, or words that stop it
@@ -110,7 +110,7 @@ module _ (words : List (List ℕ)) (x : Execution) where
 
   comes : (said : List ℕ) {made : Result Outcome Stop} {point : Point Outcome}
       (did : Did words x.old (Now said) made)
-      → ReachesEnd did.command (left_of x.old) (Now said) point
+      → ReachesEnd did.command (step_state x.old) (Now said) point
       → ComesSaying words x.old x.new said point
   comes said did r = comes_saying words x.old x.new said did r
 
@@ -123,20 +123,20 @@ module _ (words : List (List ℕ)) (x : Execution) where
 
 -- ---- where the steps of a command came to
 
-closed_so : (command : Command) (stop point : Point Outcome) (end last : Left)
+closed_so : (command : Command) (stop point : Point Outcome) (end last : StepState)
     (n : Result Done Stop)
     → end_at point ≡ Some n → Closes command stop end point last
     → (last.said ≡ end.said) × ((name : List ℕ) → last.tapes name ≡ end.tapes name)
     × (last.heard ≡ end.heard)
 closed_so command stop point end last n at (inl (s, (p, e))) = (
-  ap (λ (l : Left). l.said) e,
-  λ name. ap (λ (l : Left). l.tapes name) e,
-  ap (λ (l : Left). l.heard) e,
+  ap (λ (l : StepState). l.said) e,
+  λ name. ap (λ (l : StepState). l.tapes name) e,
+  ap (λ (l : StepState). l.heard) e,
 )
 closed_so command stop point end last n at (inr (stops, (name, is, inl (p, e)))) = (
-  ap (λ (l : Left). l.said) e,
-  λ other. ap (λ (l : Left). l.tapes other) e,
-  ap (λ (l : Left). l.heard) e,
+  ap (λ (l : StepState). l.said) e,
+  λ other. ap (λ (l : StepState). l.tapes other) e,
+  ap (λ (l : StepState). l.heard) e,
 )
 closed_so command stop point end last n at (inr (stops, (name, is, inr (p, e)))) =
     absurd (let q : None ≡ Some n = sym (ap end_at p) ∙ at in cc)
@@ -150,14 +150,14 @@ module _ (words : List (List ℕ)) (exchanges : Option (List Exchange)) (command
   arrived : (x : Execution) → Asks words command → x.new.heard ≡ exchanges
       → (said : List ℕ) (point : Point Outcome) (n : Result Done Stop) → end_at point ≡ Some n
       → (made : Result Outcome Stop) (did : Did words x.old (with_what_is_said said x.new) made)
-      → ReachesEnd did.command (left_of x.old) (with_what_is_said said x.new) point
+      → ReachesEnd did.command (step_state x.old) (with_what_is_said said x.new) point
       → Arrived x said point
   arrived x asks heard said point n at made did r =
       let c = closed_so did.command r.stop point r.end r.last n at r.closes in (
         record {
           end = r.end;
-          goes = subst (λ s. Goes point r.end (steps s) (left_of x.old)) (one_command did.asks asks)
-              (subst (λ p. Goes p r.end (steps did.command) (left_of x.old))
+          goes = subst (λ s. RunTo point r.end (steps s) (step_state x.old)) (one_command did.asks asks)
+              (subst (λ p. RunTo p r.end (steps did.command) (step_state x.old))
               (decided_stop did.command r.stop point r.end r.last n at r.closes) r.goes);
           heard = sym c.2 ∙ sym r.stays.heard ∙ heard;
         },
@@ -177,7 +177,7 @@ module _ (words : List (List ℕ)) (exchanges : Option (List Exchange)) (command
       subst (λ (o : Option (Option (List ℕ))). HoldAlike (Some x) o) (sym t) (inl refl)
 
   module _ (once : AnswersOnce exchanges) where
-    meet : (x y : Around) → IsTold exchanges (steps command) (left_of x) → IsToldToo x y
+    meet : (x y : Environment) → IsTold exchanges (steps command) (step_state x) → IsToldToo x y
         → x.heard ≡ none_of exchanges → y.heard ≡ none_of exchanges → y.said ≡ x.said
         → (p q : Point Outcome) → IsLast p → IsLast q → (a : MayEnd exchanges command x p)
         → (b : MayEnd exchanges command y q)
@@ -185,7 +185,7 @@ module _ (words : List (List ℕ)) (exchanges : Option (List Exchange)) (command
         × ((name : List ℕ) → HoldAlike (a.end.tapes name) (b.end.tapes name))
     meet x y told too e f said p q p_last q_last a b =
         command_way exchanges p q a.end b.end p_last q_last a.heard b.heard once command
-        (left_of x) (left_of x) (left_of y) told (
+        (step_state x) (step_state x) (step_state y) told (
           λ name. shared_of (x.world.file name) (y.world.file name) (too.file name),
           λ name. shared_of (x.world.tapes.told name) (y.world.tapes.told name) (too.tapes name),
           shared_of x.input y.input too.input,
@@ -217,7 +217,7 @@ same_rows a b c d e f h = subst (λ o. HoldAlike o d) (sym e) (subst (λ o. Hold
 
 module _ (words : List (List ℕ)) (exchanges : Option (List Exchange)) (command : Command)
     (x y : Execution) (asks : Asks words command) (once : AnswersOnce exchanges)
-    (told : IsTold exchanges (steps command) (left_of x.old)) (too : IsToldToo x.old y.old)
+    (told : IsTold exchanges (steps command) (step_state x.old)) (too : IsToldToo x.old y.old)
     (one : WentWell words exchanges x) (other : WentWell words exchanges y) where
   -- where both came, they said the same and left the same rows
   both : (said spoken : List ℕ) (p q : Point Outcome) → IsLast p → IsLast q
@@ -324,7 +324,7 @@ tells_itself : {T : Type 0} (told : Option T) → TellsToo told told
 tells_itself None = tt
 tells_itself (Some x) = refl
 
-told_itself : (a : Around) → IsToldToo a a
+told_itself : (a : Environment) → IsToldToo a a
 told_itself a = record {
   file = λ name. tells_itself (a.world.file name);
   tapes = λ name. tells_itself (a.world.tapes.told name);

@@ -5,7 +5,7 @@ use Rattle.std.specs.Prelude.{◌⊎◌, Bool, true, false, IsSome}
 use Rattle.std.specs.Io.KnownBytes.{Consumes, IsAtEnd}
 use Rattle.kr_base.specs.Told.{Agrees}
 use Rattle.kr_kms.specs.declared.world.WorldCall.TheVariants.{File, Tape, RandomSource, Link, Settled, Returned}
-use Rattle.kr_cmd_steps.specs.Steps.{Steps, load, take_input, borrow_dice, borrow_tape, read_tape, write_row, keep_rows, settle, give_back, draw, note, find, refuse, give, Call, Point, amid, awaits, refuses, gives, IsAt, Left, with_input, with_dice, with_tape, with_told, with_asked, with_heard, with_said, Goes, borrow_link, ask_status, wrap, unwrap}
+use Rattle.kr_cmd_steps.specs.Steps.{Steps, load, take_input, borrow_dice, borrow_tape, read_tape, write_row, keep_rows, settle, give_back, draw, note, find, refuse, give, Call, Point, amid, awaits, refuses, gives, IsAt, StepState, with_input, with_dice, with_tape, with_told, with_asked, with_heard, with_said, RunTo, borrow_link, ask_status, wrap, unwrap}
 use Rattle.kr_kms.specs.Exchanges.{Exchange, StatusCall}
 use Rattle.kr_kms.specs.Limits.{IsWithinLimits}
 use Rattle.kr_kms.specs.declared.plugin.Status.{Status}
@@ -36,7 +36,7 @@ alike_at a b h e f m n x y =
 
 -- two lists of steps go one way over what is told, whatever they draw and find, to one refusal or
 -- to values that end alike
-abbrev pub IsSettled : (first second : Steps Outcome) → (left right : Left) → Type 0
+abbrev pub IsSettled : (first second : Steps Outcome) → (left right : StepState) → Type 0
 IsSettled (load name next) (load other more) left right =
     IsSome (left.file name) × (right.file other ≡ left.file name)
     × ((bytes : Option (List ℕ)) → Agrees (left.file name) bytes → IsSettled (next bytes) (more bytes)
@@ -132,9 +132,9 @@ whole a b None ra rb told c d e f = absurd cc
 whole a b (Some x) None rb told c d e f = absurd c
 whole a b (Some x) (Some r) None told c d e f = absurd d
 
-module _ (p q : Point Outcome) (end last : Left) where
+module _ (p q : Point Outcome) (end last : StepState) where
   -- where steps stop before a call or at it they end nothing, so what follows it decides
-  past_two : {G K : Type 0} {x y : Call} {before at under there : Left}
+  past_two : {G K : Type 0} {x y : Call} {before at under there : StepState}
       → IsAt p end amid before ⊎ IsAt p end (awaits x) at ⊎ G
       → IsAt q last amid under ⊎ IsAt q last (awaits y) there ⊎ K
       → (G → K → Alike p q) → Alike p q
@@ -144,12 +144,12 @@ module _ (p q : Point Outcome) (end last : Left) where
   past_two (inr (inr g)) (inr (inl f)) both = no_second p q _ refl f.0
   past_two (inr (inr g)) (inr (inr k)) both = both g k
 
-  pub one_point : (first second : Steps Outcome) (left right : Left)
-      → IsSettled first second left right → Goes p end first left → Goes q last second right
+  pub one_point : (first second : Steps Outcome) (left right : StepState)
+      → IsSettled first second left right → RunTo p end first left → RunTo q last second right
       → Alike p q
   one_point (load name next) (load other more) left right s g k = past_two g k (λ g k.
       one_point (next g.0) (more g.0) _ _ (s.2 g.0 g.1) g.2
-      (subst (λ c. Goes q last (more c) (with_asked (File other) right))
+      (subst (λ c. RunTo q last (more c) (with_asked (File other) right))
       (one_file (left.file name) g.0 k.0 s.0 g.1 (subst (λ t. Agrees t k.0) s.1 k.1)) k.2))
   one_point (take_input limit long next) (take_input most much more) left right s
       (a, ra, ca, inl (x, e)) k =
@@ -172,8 +172,8 @@ module _ (p q : Point Outcome) (end last : Left) where
       (a, ra, ca, inr (inr (x, e, g))) (b, rb, cb, inr (inr (y, f, k))) =
       let h = whole a b left.input ra rb s.2 ca (by_input rb b s.3 cb) e f in
       one_point (next a) (more a) _ _ (s.4 a ra) g
-      (subst (λ r. Goes q last (more a) (with_input r right)) h.1
-      (subst (λ c. Goes q last (more c) (with_input rb right)) h.0 k))
+      (subst (λ r. RunTo q last (more a) (with_input r right)) h.1
+      (subst (λ c. RunTo q last (more c) (with_input rb right)) h.0 k))
   one_point (borrow_dice seat next) (borrow_dice other more) left right s g k =
       past_two g k (λ g k. one_point next more _ _ s g k)
   one_point (borrow_tape name access absent next) (borrow_tape other also cause more) left right s
@@ -210,7 +210,7 @@ module _ (p q : Point Outcome) (end last : Left) where
   one_point (read_tape object name next) (read_tape thing other more) left right s
       (inr (a, x, g)) (inr (b, y, k)) =
       one_point (next a) (more a) left right (s.2 a) g
-      (subst (λ c. Goes q last (more c) right)
+      (subst (λ c. RunTo q last (more c) right)
       (one_tape (left.tapes name) a b s.0 x (subst (λ t. Agrees t (Some b)) s.1 y)) k)
   one_point (write_row object name store row next) (write_row thing other held line more) left right
       s (inl (told, begins, e)) k =
@@ -260,7 +260,7 @@ module _ (p q : Point Outcome) (end last : Left) where
   one_point (ask_status seat plugin next) (ask_status other name more) left right s
       (inr (inr (inr (a, x, g)))) (inr (inr (inr (b, y, k)))) =
       one_point (next a) (more a) _ _ (s.2 a _ _) g
-      (subst (λ c. Goes q last (more c) (with_heard (StatusCall name (Ok b)) right))
+      (subst (λ c. RunTo q last (more c) (with_heard (StatusCall name (Ok b)) right))
       (one_status (left.links (seat, plugin)) a b s.0 x (subst (λ t. Agrees t b) s.1 y)) k)
   one_point (wrap seat plugin plain next) (wrap other name bytes more) left right s (inl e) k =
       no_first p q _ refl e.0

@@ -15,7 +15,7 @@ use Rattle.kr_kms.specs.Outside.{makes, same_name}
 use Rattle.kr_kms.specs.declared.seeds.SeedKey.{SeedKey}
 use Rattle.kr_kms.specs.declared.world.WorldCall.TheVariants.{File, Link, RandomSource, Settled, Tape, Returned}
 use Rattle.kr_cmd_messages.specs.declared.refusal.Refusal.{Refusal}
-use Rattle.kr_cmd_steps.specs.Steps.{Steps, unwrap, Point, refuses, gives, Left, Goes, IsAt, MayBorrow, hearing, or_empty, with_asked, with_dice, with_heard, with_input, with_said, with_tape, with_told}
+use Rattle.kr_cmd_steps.specs.Steps.{Steps, unwrap, Point, refuses, gives, StepState, RunTo, IsAt, MayBorrow, hearing, or_empty, with_asked, with_dice, with_heard, with_input, with_said, with_tape, with_told}
 use Rattle.kr_cmd_steps.specs.StoreFiles.{HoldsRows, Stored, with_row}
 use Rattle.kr_cmd_steps.specs.Telling.{AnswersOnce, IsAmong, IsTold}
 use Rattle.kr_cmd_laws.specs.Results.{HoldAlike}
@@ -159,27 +159,27 @@ among exchanges es x is c =
 
 -- ---- one of the two ways
 
-module _ {A : Type 0} (exchanges : Option (List Exchange)) (p : Point A) (end : Left)
+module _ {A : Type 0} (exchanges : Option (List Exchange)) (p : Point A) (end : StepState)
     (is_last : IsLast p) (heard : end.heard ≡ exchanges) (es : List Exchange)
     (is_told : exchanges ≡ Some es) where
   -- what is heard then is in front of all
-  in_front : (h : List Exchange) (left : Left) → left.heard ≡ Some h → Grows p end is_last left
+  in_front : (h : List Exchange) (left : StepState) → left.heard ≡ Some h → Grows p end is_last left
       → (more : List Exchange) × (es ≡ h ++ more)
   in_front h left is g = let m = g h is in
       (m.0, one_end end.heard es (h ++ m.0) (heard ∙ is_told) m.1)
 
-  was_heard : (x : Exchange) (h : List Exchange) (left : Left) → left.heard ≡ Some (h ++ x ∷ [])
+  was_heard : (x : Exchange) (h : List Exchange) (left : StepState) → left.heard ≡ Some (h ++ x ∷ [])
       → Grows p end is_last left → IsAmong exchanges x
   was_heard x h left is g = let m = in_front (h ++ x ∷ []) left is g in
       among exchanges es x is_told (subst (λ told. Contains told x) (sym m.1)
       (Contains-append_left (h ++ x ∷ []) m.0 x (Contains-push h x)))
 
   -- a source was unwrapped to these bytes
-  unwrapped : (seat : ℕ) (key : SeedKey) (next : List ℕ → Steps A) (left : Left)
-      (h : List Exchange) → left.heard ≡ Some h → Goes p end (unwrap seat key next) left
+  unwrapped : (seat : ℕ) (key : SeedKey) (next : List ℕ → Steps A) (left : StepState)
+      (h : List Exchange) → left.heard ≡ Some h → RunTo p end (unwrap seat key next) left
       → (bytes : List ℕ) × IsAmong exchanges (UnwrapCall key (Ok bytes))
       × (k : List Exchange) × (asking k ≡ asking h)
-      × Goes p end (next bytes) (record left { heard = Some k })
+      × RunTo p end (next bytes) (record left { heard = Some k })
   unwrapped seat key next left h is g =
       let a = past_unwrap p end is_last seat key next left g in
       let x = UnwrapCall key (Ok a.0) in
@@ -189,16 +189,16 @@ module _ {A : Type 0} (exchanges : Option (List Exchange)) (p : Point A) (end : 
             (grown p end is_last (next a.0) (with_heard x left) a.1),
         h ++ x ∷ [],
         asking_both h (x ∷ []) ∙ append-nil (asking h),
-        subst (λ (l : Left). Goes p end (next a.0) l) (λ i. record left { heard = now i }) a.1,
+        subst (λ (l : StepState). RunTo p end (next a.0) l) (λ i. record left { heard = now i }) a.1,
       )
 
 -- ---- both
 
-module _ {A : Type 0} (exchanges : Option (List Exchange)) (p q : Point A) (end last : Left)
+module _ {A : Type 0} (exchanges : Option (List Exchange)) (p q : Point A) (end last : StepState)
     (p_last : IsLast p) (q_last : IsLast q) (heard : end.heard ≡ exchanges)
     (heard_too : last.heard ≡ exchanges) (once : AnswersOnce exchanges) where
   -- they are as far as each other
-  abbrev pub AreAbreast : (told left right : Left) → Type 0
+  abbrev pub AreAbreast : (told left right : StepState) → Type 0
   AreAbreast told left right =
       ((name : List ℕ) → Shared (told.file name) (left.file name) (right.file name))
       × ((name : List ℕ) → Shared (told.tapes name) (left.tapes name) (right.tapes name))
@@ -209,17 +209,17 @@ module _ {A : Type 0} (exchanges : Option (List Exchange)) (p q : Point A) (end 
       × AskedAlike exchanges left.heard right.heard
 
   -- they are so with other exchanges that were asked alike
-  heard_so : (told left right : Left) (first second : Option (List Exchange))
+  heard_so : (told left right : StepState) (first second : Option (List Exchange))
       → AreAbreast told left right → AskedAlike exchanges first second
       → AreAbreast told (record left { heard = first }) (record right { heard = second })
   heard_so told left right first second s asked = (s.0, s.1, s.2, s.3, s.4, s.5, asked)
 
   -- what both ask next is one question with one answer, behind which they are abreast still
-  one_answer : (x y : Exchange) (told left right : Left) (first second : Steps A)
+  one_answer : (x y : Exchange) (told left right : StepState) (first second : Steps A)
       → ((es : List Exchange) → asking (x ∷ es) ≡ x ∷ asking es)
       → ((es : List Exchange) → asking (y ∷ es) ≡ y ∷ asking es) → IsSome exchanges
-      → AreAbreast told left right → Goes p end first (with_heard x left)
-      → Goes q last second (with_heard y right)
+      → AreAbreast told left right → RunTo p end first (with_heard x left)
+      → RunTo q last second (with_heard y right)
       → (x ≡ y) × IsAmong exchanges x × AreAbreast told (with_heard x left) (with_heard x right)
   one_answer x y told left right first second is_x is_y some s g k =
       let es = those exchanges some in
@@ -242,34 +242,34 @@ module _ {A : Type 0} (exchanges : Option (List Exchange)) (p q : Point A) (end 
   Meet = (p ≡ q) × (last.said ≡ end.said)
       × ((name : List ℕ) → HoldAlike (end.tapes name) (last.tapes name))
 
-  meet : (here : Point A) (left right : Left) → right.said ≡ left.said
+  meet : (here : Point A) (left right : StepState) → right.said ≡ left.said
       → ((name : List ℕ) → HoldAlike (left.tapes name) (right.tapes name))
       → IsAt p end here left → IsAt q last here right → Meet
   meet here left right said alike e f = (
     e.0 ∙ sym f.0,
-    ap (λ (l : Left). l.said) f.1 ∙ said ∙ sym (ap (λ (l : Left). l.said) e.1),
-    λ name. subst (λ (l : Left). HoldAlike (l.tapes name) (last.tapes name)) (sym e.1)
-        (subst (λ (l : Left). HoldAlike (left.tapes name) (l.tapes name)) (sym f.1) (alike name)),
+    ap (λ (l : StepState). l.said) f.1 ∙ said ∙ sym (ap (λ (l : StepState). l.said) e.1),
+    λ name. subst (λ (l : StepState). HoldAlike (l.tapes name) (last.tapes name)) (sym e.1)
+        (subst (λ (l : StepState). HoldAlike (left.tapes name) (l.tapes name)) (sym f.1) (alike name)),
   )
 
   -- ---- the input
 
-  abbrev Took : (point : Point A) (finish : Left) (limit : ℕ) → Refusal → (List ℕ → Steps A) → Left
+  abbrev Took : (point : Point A) (finish : StepState) (limit : ℕ) → Refusal → (List ℕ → Steps A) → StepState
       → Type 0
   Took point finish limit long next left = (bytes : List ℕ) × (rest : Option (List ℕ))
       × Consumes left.input rest bytes × (
       ((length bytes ≡ limit + 1) × IsAt point finish (refuses long) (with_input rest left))
       ⊎ ((length bytes ≤ limit) × IsAtEnd rest
-      × Goes point finish (next bytes) (with_input rest left))
+      × RunTo point finish (next bytes) (with_input rest left))
       )
 
   -- the whole input, or its beginning
-  whole_of : (point : Point A) (finish : Left) (limit : ℕ) (long : Refusal)
-      (next : List ℕ → Steps A) (left : Left) (xs : List ℕ) → left.input ≡ Some xs
+  whole_of : (point : Point A) (finish : StepState) (limit : ℕ) (long : Refusal)
+      (next : List ℕ → Steps A) (left : StepState) (xs : List ℕ) → left.input ≡ Some xs
       → Took point finish limit long next left
       → ((rest : Option (List ℕ)) × (limit + 1 ≤ length xs)
       × IsAt point finish (refuses long) (with_input rest left))
-      ⊎ ((length xs ≤ limit) × Goes point finish (next xs) (with_input (Some []) left))
+      ⊎ ((length xs ≤ limit) × RunTo point finish (next xs) (with_input (Some []) left))
   whole_of point finish limit long next left xs is (bytes, rest, c, inl (more, e)) =
       let t = taken_of left.input rest xs bytes is c in
       inl (rest, omega (arith, more, ap length t.2, length-append bytes t.0), e)
@@ -279,22 +279,22 @@ module _ {A : Type 0} (exchanges : Option (List Exchange)) (p q : Point A) (end 
       let all : xs ≡ bytes = t.2 ∙ ap (λ r. bytes ++ r) none ∙ append-nil bytes in
       inr (
         subst (λ (b : List ℕ). length b ≤ limit) (sym all) short,
-        subst (λ (b : List ℕ). Goes point finish (next b) (with_input (Some []) left)) (sym all)
-            (subst (λ r. Goes point finish (next bytes) (with_input r left))
+        subst (λ (b : List ℕ). RunTo point finish (next b) (with_input (Some []) left)) (sym all)
+            (subst (λ r. RunTo point finish (next bytes) (with_input r left))
             (t.1 ∙ ap (λ r. Some r) none) g),
       )
 
-  by_input : (limit : ℕ) (long : Refusal) (next more : List ℕ → Steps A) (left right : Left)
+  by_input : (limit : ℕ) (long : Refusal) (next more : List ℕ → Steps A) (left right : StepState)
       (xs : List ℕ) → right.said ≡ left.said
       → ((name : List ℕ) → HoldAlike (left.tapes name) (right.tapes name))
       → ((rest : Option (List ℕ)) × (limit + 1 ≤ length xs)
       × IsAt p end (refuses long) (with_input rest left))
-      ⊎ ((length xs ≤ limit) × Goes p end (next xs) (with_input (Some []) left))
+      ⊎ ((length xs ≤ limit) × RunTo p end (next xs) (with_input (Some []) left))
       → ((rest : Option (List ℕ)) × (limit + 1 ≤ length xs)
       × IsAt q last (refuses long) (with_input rest right))
-      ⊎ ((length xs ≤ limit) × Goes q last (more xs) (with_input (Some []) right))
-      → (length xs ≤ limit → Goes p end (next xs) (with_input (Some []) left)
-      → Goes q last (more xs) (with_input (Some []) right) → Meet)
+      ⊎ ((length xs ≤ limit) × RunTo q last (more xs) (with_input (Some []) right))
+      → (length xs ≤ limit → RunTo p end (next xs) (with_input (Some []) left)
+      → RunTo q last (more xs) (with_input (Some []) right) → Meet)
       → Meet
   by_input limit long next more left right xs said alike (inl (a, x, e)) (inl (b, y, f)) go =
       meet (refuses long) (with_input a left) (with_input b right) said alike e f
@@ -306,7 +306,7 @@ module _ {A : Type 0} (exchanges : Option (List Exchange)) (p q : Point A) (end 
 
   -- ---- a tape that is borrowed
 
-  lent_alike : (make : Bool) (name : List ℕ) (told left right : Left)
+  lent_alike : (make : Bool) (name : List ℕ) (told left right : StepState)
       → AreAbreast told left right
       → AreAbreast (with_tape make name told) (with_tape make name left) (with_tape make name right)
   lent_alike false name told left right s = s
@@ -328,13 +328,13 @@ module _ {A : Type 0} (exchanges : Option (List Exchange)) (p q : Point A) (end 
 
   by_tape : (make : Bool) (absent : Refusal) (one other : Option (Option (List ℕ)))
       (x : Option (List ℕ)) → one ≡ Some x → other ≡ Some x → (next more : Steps A)
-      (left right here there : Left) → right.said ≡ left.said
+      (left right here there : StepState) → right.said ≡ left.said
       → ((name : List ℕ) → HoldAlike (left.tapes name) (right.tapes name))
       → ((make ≡ false) × Agrees one None × IsAt p end (refuses absent) left)
-      ⊎ (MayBorrow one make × Goes p end next here)
+      ⊎ (MayBorrow one make × RunTo p end next here)
       → ((make ≡ false) × Agrees other None × IsAt q last (refuses absent) right)
-      ⊎ (MayBorrow other make × Goes q last more there)
-      → (MayBorrow one make → Goes p end next here → Goes q last more there → Meet)
+      ⊎ (MayBorrow other make × RunTo q last more there)
+      → (MayBorrow one make → RunTo p end next here → RunTo q last more there → Meet)
       → Meet
   by_tape make absent one other x is also next more left right here there said alike (inl (unmade, a, e))
       (inl (none, b, f)) go =
@@ -353,7 +353,7 @@ module _ {A : Type 0} (exchanges : Option (List Exchange)) (p q : Point A) (end 
   -- ---- a tape that is written
 
   written_alike : (name : List ℕ) (store : Stored) (a b : Option (List ℕ))
-      (told left right : Left)
+      (told left right : StepState)
       → HoldsRows store a → HoldsRows store b → AreAbreast told left right
       → AreAbreast (with_told name None told) (with_told name a left) (with_told name b right)
   written_alike name store a b told left right h k s = (
@@ -370,18 +370,18 @@ module _ {A : Type 0} (exchanges : Option (List Exchange)) (p q : Point A) (end 
 
   -- ---- all steps
 
-  pub one_way : (s t : Steps A) → GoAlike exchanges Same s t → (told left right : Left)
+  pub one_way : (s t : Steps A) → GoAlike exchanges Same s t → (told left right : StepState)
       → IsTold exchanges s told → IsTold exchanges t told → AreAbreast told left right
-      → Goes p end s left → Goes q last t right → Meet
+      → RunTo p end s left → RunTo q last t right → Meet
   one_way _ _ (loads name next more each) told left right t w s g k =
       let a = past_load p end p_last name next left g in
       let b = past_load q last q_last name more right k in
       let f = shared_there (told.file name) (left.file name) (right.file name) t.0 (s.0 name) in
       one_way (next f.0) (more f.0) (each f.0) told (with_asked (File name) left)
       (with_asked (File name) right) (t.1 f.0 f.1) (w.1 f.0 f.1) s
-      (subst (λ (v : Option (List ℕ)). Goes p end (next v) (with_asked (File name) left))
+      (subst (λ (v : Option (List ℕ)). RunTo p end (next v) (with_asked (File name) left))
       (sym (agreed (left.file name) f.0 a.0 f.2 a.1)) a.2)
-      (subst (λ (v : Option (List ℕ)). Goes q last (more v) (with_asked (File name) right))
+      (subst (λ (v : Option (List ℕ)). RunTo q last (more v) (with_asked (File name) right))
       (sym (agreed (right.file name) f.0 b.0 f.3 b.1)) b.2)
   one_way _ _ (takes limit long next more each) told left right t w s g k =
       let f = shared_there told.input left.input right.input t.0 s.2 in
@@ -418,7 +418,7 @@ module _ {A : Type 0} (exchanges : Option (List Exchange)) (p q : Point A) (end 
       let there : told.tapes name ≡ Some (Some a.0) = f.1 ∙ ap (λ o. Some o) is in
       one_way (next a.0) (more a.0) (each a.0) told left right (t.1 a.0 there) (w.1 a.0 there) s
       a.2
-      (subst (λ (v : List ℕ). Goes q last (more v) right) (one_end f.0 b.0 a.0 also is) b.2)
+      (subst (λ (v : List ℕ). RunTo q last (more v) right) (one_end f.0 b.0 a.0 also is) b.2)
   one_way _ _ (writes_row object name store row next more each) told left right t w s g k =
       let a = past_write p end p_last object name store row next left g in
       let b = past_write q last q_last object name store row more right k in
@@ -456,8 +456,8 @@ module _ {A : Type 0} (exchanges : Option (List Exchange)) (p q : Point A) (end 
         s.6,
       )
       a.4
-      (subst (λ (x : List ℕ). Goes q last (more x) (with_dice seat a.1 right)) same.0
-      (subst (λ o. Goes q last (more b.0) (with_dice seat o right))
+      (subst (λ (x : List ℕ). RunTo q last (more x) (with_dice seat a.1 right)) same.0
+      (subst (λ o. RunTo q last (more b.0) (with_dice seat o right))
       (v.1 ∙ ap (λ o. Some o) same.1 ∙ sym u.1) b.4))
   one_way _ _ (borrows_link seat plugin program next more each) told left right t w s g k =
       one_way next more each told (with_asked (Link seat plugin program) left)
@@ -474,7 +474,7 @@ module _ {A : Type 0} (exchanges : Option (List Exchange)) (p q : Point A) (end 
       let same : b.0 ≡ a.0 = (let e : x ≡ y = one.0 in cc) in
       one_way (next a.0) (more a.0) (each a.0) told (with_heard x left) (with_heard x right)
       (t.1 a.0 one.1) (w.1 a.0 one.1) one.2 a.1
-      (subst (λ v. Goes q last (more v) (with_heard (StatusCall plugin (Ok v)) right)) same b.1)
+      (subst (λ v. RunTo q last (more v) (with_heard (StatusCall plugin (Ok v)) right)) same b.1)
   one_way _ _ (wraps seat plugin plain next more each) told left right t w s g k =
       let a = past_wrap p end p_last seat plugin plain next left g in
       let b = past_wrap q last q_last seat plugin plain more right k in
@@ -485,7 +485,7 @@ module _ {A : Type 0} (exchanges : Option (List Exchange)) (p q : Point A) (end 
       let same : b.0 ≡ a.0 = (let e : x ≡ y = one.0 in cc) in
       one_way (next a.0) (more a.0) (each a.0) told (with_heard x left) (with_heard x right)
       (t.1 a.0 one.1) (w.1 a.0 one.1) one.2 a.1
-      (subst (λ v. Goes q last (more v) (with_heard (WrapCall plugin plain (Ok v)) right)) same b.1)
+      (subst (λ v. RunTo q last (more v) (with_heard (WrapCall plugin plain (Ok v)) right)) same b.1)
   one_way _ _ (first_unwraps seat key next other each) told left right t w s g k =
       let es = those exchanges t.0 in
       let h = s.6 t.0 in
@@ -516,13 +516,13 @@ module _ {A : Type 0} (exchanges : Option (List Exchange)) (p q : Point A) (end 
 
 -- ---- a command
 
-module _ (exchanges : Option (List Exchange)) (p q : Point Outcome) (end last : Left)
+module _ (exchanges : Option (List Exchange)) (p q : Point Outcome) (end last : StepState)
     (p_last : IsLast p) (q_last : IsLast q) (heard : end.heard ≡ exchanges)
     (heard_too : last.heard ≡ exchanges) (once : AnswersOnce exchanges) where
-  pub command_way : (command : Command) (told left right : Left)
+  pub command_way : (command : Command) (told left right : StepState)
       → IsTold exchanges (steps command) told
       → AreAbreast exchanges p q end last p_last q_last heard heard_too once told left right
-      → Goes p end (steps command) left → Goes q last (steps command) right
+      → RunTo p end (steps command) left → RunTo q last (steps command) right
       → Meet exchanges p q end last p_last q_last heard heard_too once
   command_way command told left right t s g k =
       one_way exchanges p q end last p_last q_last heard heard_too once (steps command)

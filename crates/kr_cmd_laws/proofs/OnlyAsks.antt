@@ -10,12 +10,12 @@ use Rattle.kr_kms.specs.declared.plugin.KmsNo.TheVariants.{Failed}
 use Rattle.kr_kms.specs.declared.plugin.Status.{Status}
 use Rattle.kr_kms.specs.declared.plugin.Wrapped.{Wrapped}
 use Rattle.kr_kms.specs.declared.world.WorldCall.TheVariants.{File, Link, RandomSource, Settled, Tape, Returned}
-use Rattle.kr_cmd_steps.specs.Steps.{Steps, load, take_input, borrow_dice, borrow_tape, read_tape, write_row, keep_rows, settle, give_back, draw, borrow_link, ask_status, wrap, unwrap, note, find, refuse, give, and_then, Point, Left, Goes, hearing, with_asked, with_dice, with_input, with_said, with_tape, with_told}
+use Rattle.kr_cmd_steps.specs.Steps.{Steps, load, take_input, borrow_dice, borrow_tape, read_tape, write_row, keep_rows, settle, give_back, draw, borrow_link, ask_status, wrap, unwrap, note, find, refuse, give, and_then, Point, StepState, RunTo, hearing, with_asked, with_dice, with_input, with_said, with_tape, with_told}
 use Rattle.kr_cmd_laws.specs.FleetPlugins.{AllHeard}
 use Rattle.kr_cmd_laws.proofs.Plain.{IsPlain}
 
 -- from what is left on, whatever is drawn, found and answered, they ask plugins only this
-abbrev pub OnlyAsks : {A : Type 0} → (Exchange → Type 0) → Steps A → Left → Type 0
+abbrev pub OnlyAsks : {A : Type 0} → (Exchange → Type 0) → Steps A → StepState → Type 0
 OnlyAsks P (load name next) left =
     (bytes : Option (List ℕ)) → OnlyAsks P (next bytes) (with_asked (File name) left)
 OnlyAsks P (take_input limit long next) left = (bytes : List ℕ) (rest : Option (List ℕ))
@@ -59,23 +59,23 @@ one_more : (P : Exchange → Type 0) (e : Exchange) (h : Option (List Exchange))
 one_more P e None p a = absurd a
 one_more P e (Some heard) p a = All-append P heard (e ∷ []) a (All-cons P e [] p (All-nil P))
 
-module _ {A : Type 0} (P : Exchange → Type 0) (point : Point A) (end : Left) where
+module _ {A : Type 0} (P : Exchange → Type 0) (point : Point A) (end : StepState) where
   -- what is heard in the end is that
   abbrev Fine : Type 0
   Fine = AllHeard P end.heard
 
-  at : (left : Left) {here : Point A} → AllHeard P left.heard → (point ≡ here) × (end ≡ left)
+  at : (left : StepState) {here : Point A} → AllHeard P left.heard → (point ≡ here) × (end ≡ left)
       → Fine
-  at left a e = subst (λ (l : Left). AllHeard P l.heard) (sym e.1) a
+  at left a e = subst (λ (l : StepState). AllHeard P l.heard) (sym e.1) a
 
   -- the last that was asked
-  at_asked : (call : Exchange) (left : Left) {here : Point A} → P call → AllHeard P left.heard
+  at_asked : (call : Exchange) (left : StepState) {here : Point A} → P call → AllHeard P left.heard
       → (point ≡ here) × (end ≡ record left { heard = hearing (call ∷ []) left.heard }) → Fine
   at_asked call left p a e = at (record left { heard = hearing (call ∷ []) left.heard })
       (one_more P call left.heard p a) e
 
-  pub only_asked : (s : Steps A) (left : Left) → OnlyAsks P s left → AllHeard P left.heard
-      → Goes point end s left → Fine
+  pub only_asked : (s : Steps A) (left : StepState) → OnlyAsks P s left → AllHeard P left.heard
+      → RunTo point end s left → Fine
   only_asked (load name next) left g a (inl e) = at left a e
   only_asked (load name next) left g a (inr (inl e)) = at (with_asked (File name) left) a e
   only_asked (load name next) left g a (inr (inr (bytes, agrees, goes))) =
@@ -152,8 +152,8 @@ module _ {A : Type 0} (P : Exchange → Type 0) (point : Point A) (end : Left) w
 -- ---- one behind another
 
 module _ {A B : Type 0} (P : Exchange → Type 0) (others : A → Steps B)
-    (go_on : (x : A) (l : Left) → OnlyAsks P (others x) l) where
-  pub only_then : (first : Steps A) (left : Left) → OnlyAsks P first left
+    (go_on : (x : A) (l : StepState) → OnlyAsks P (others x) l) where
+  pub only_then : (first : Steps A) (left : StepState) → OnlyAsks P first left
       → OnlyAsks P (and_then first others) left
   only_then (load name next) left g = λ bytes. only_then (next bytes) _ (g bytes)
   only_then (take_input limit long next) left g =
@@ -182,7 +182,7 @@ module _ {A B : Type 0} (P : Exchange → Type 0) (others : A → Steps B)
 
 -- ---- steps that read alone
 
-pub plain_asks : {A : Type 0} (P : Exchange → Type 0) (s : Steps A) (left : Left) → IsPlain s
+pub plain_asks : {A : Type 0} (P : Exchange → Type 0) (s : Steps A) (left : StepState) → IsPlain s
     → OnlyAsks P s left
 plain_asks P (load name next) left p = λ bytes. plain_asks P (next bytes) _ (p bytes)
 plain_asks P (take_input limit long next) left p =

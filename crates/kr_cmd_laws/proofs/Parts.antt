@@ -1,22 +1,22 @@
 -- Steps behind others that only read: the first end them, or the others go on over the same tapes.
 use Rattle.std.proofs.Common.{◌≡◌, ◌⊎◌, refl, sym, ap, subst, inl, inr}
 use Rattle.kr_kms.specs.declared.world.Access.TheVariants.{ToRead, ToWrite, ToMake}
-use Rattle.kr_cmd_steps.specs.Steps.{Steps, load, take_input, borrow_dice, borrow_tape, read_tape, write_row, keep_rows, settle, give_back, draw, borrow_link, ask_status, wrap, unwrap, note, find, refuse, give, and_then, Point, Left, IsAt, Goes}
+use Rattle.kr_cmd_steps.specs.Steps.{Steps, load, take_input, borrow_dice, borrow_tape, read_tape, write_row, keep_rows, settle, give_back, draw, borrow_link, ask_status, wrap, unwrap, note, find, refuse, give, and_then, Point, StepState, IsAt, RunTo}
 use Rattle.kr_cmd_steps.proofs.Points.{IsShort}
 use Rattle.kr_cmd_laws.proofs.ReadOnly.{IsReadOnly}
 
-module _ {A B : Type 0} (others : A → Steps B) (p : Point B) (end : Left) where
+module _ {A B : Type 0} (others : A → Steps B) (p : Point B) (end : StepState) where
   -- the first steps ended it, or the others went on; the tapes are the same so far
-  abbrev pub Parts : Left → Type 0
+  abbrev pub Parts : StepState → Type 0
   Parts left = (IsShort p × (end.tapes ≡ left.tapes))
-      ⊎ ((x : A) × (mid : Left) × (mid.tapes ≡ left.tapes) × Goes p end (others x) mid)
+      ⊎ ((x : A) × (mid : StepState) × (mid.tapes ≡ left.tapes) × RunTo p end (others x) mid)
 
-  ends_at : {here : Point B} {left : Left} → IsAt p end here left → IsShort here
+  ends_at : {here : Point B} {left : StepState} → IsAt p end here left → IsShort here
       → IsShort p × (end.tapes ≡ left.tapes)
   ends_at at short = (subst IsShort (sym at.0) short, ap (λ l. l.tapes) at.1)
 
-  pub parts : (first : Steps A) (left : Left) → IsReadOnly first
-      → Goes p end (and_then first others) left → Parts left
+  pub parts : (first : Steps A) (left : StepState) → IsReadOnly first
+      → RunTo p end (and_then first others) left → Parts left
   parts (load name next) left r (inl at) = inl (ends_at at tt)
   parts (load name next) left r (inr (inl at)) = inl (ends_at at tt)
   parts (load name next) left r (inr (inr (bytes, agrees, goes))) =

@@ -51,7 +51,7 @@ use Rattle.kr_cmd_messages.specs.declared.refusal.Object.{Object}
 use Rattle.kr_cmd_messages.specs.declared.refusal.Object.TheVariants.{Store, Target}
 use Rattle.kr_cmd_messages.specs.declared.refusal.Outcome.{Outcome}
 use Rattle.kr_cmd_messages.specs.declared.refusal.Refusal.{Refusal}
-use Rattle.kr_cmd_steps.specs.Around.{Around, left_of, with_what_is_said}
+use Rattle.kr_cmd_steps.specs.Environment.{Environment, step_state, with_what_is_said}
 use Rattle.kr_cmd_steps.specs.Phases.{adding, by_result, configuration, input_of, linking_programs, settled_for, silently, stored_on, tape_for, with_memory, within_limit, read_for}
 use Rattle.kr_cmd_steps.specs.ValueSteps.{bench_steps, data_steps, draw_some, opening, published_source, reading_given, source_steps, value_read, value_sealed, value_steps, value_with, working, working_by, fetching, none_kept}
 use Rattle.kr_cmd_steps.specs.StoreSteps.{copied_into, copying, live_on, migrated_line, migrated_row, migrating_into, new_row, revision_line, row_finding, row_findings, row_found, row_on, sealed_into, source_on, stored_into, target_on, target_read, telling_findings, verifying_by, verifying_with}
@@ -60,11 +60,11 @@ use Rattle.kr_cmd_steps.specs.RewriteSteps.{Progress, driving, nothing_done, one
 use Rattle.kr_cmd_steps.specs.Plugins.{borrow_links, make_seed, make_seeds, settings_programs, unless_breach, wrap_seed}
 use Rattle.kr_cmd_steps.specs.RowFindings.{finding_of}
 use Rattle.kr_cmd_steps.specs.Ran.{Answers, Closes, EndsAll, ReachesEnd}
-use Rattle.kr_cmd_steps.specs.Steps.{Steps, borrow_dice, settle, find, give, and_then, with_asked, with_tape, Left, Goes, Point, amid, awaits, gives, refuses, give_back}
+use Rattle.kr_cmd_steps.specs.Steps.{Steps, borrow_dice, settle, find, give, and_then, with_asked, with_tape, StepState, RunTo, Point, amid, awaits, gives, refuses, give_back}
 use Rattle.kr_cmd_steps.specs.StoreFiles.{IsStored, Stored, none_there, with_row}
 use Rattle.kr_cmd_steps.specs.declared.programs.Program.{Program}
 use Rattle.kr_cmd_laws.specs.VerifyLaws.{AreLive}
-use Rattle.kr_cmd_laws.specs.PluginLaws.{IsInput, IsLiveOf, IsQuestion, IsRowOf, PluginsSee, Sees, verified_as}
+use Rattle.kr_cmd_laws.specs.PluginLaws.{IsInput, IsLiveOf, IsQuestion, IsStoredValue, PluginsSee, Sees, verified_as}
 use Rattle.kr_cmd_laws.specs.FleetPlugins.{AllHeard}
 use Rattle.kr_cmd_laws.proofs.OnlyAsks.{plain_asks, OnlyAsks, only_asked, only_then}
 use Rattle.kr_cmd_laws.proofs.Plain.{plain}
@@ -72,94 +72,94 @@ use Rattle.kr_cmd_laws.proofs.Plain.{plain}
 -- ---- phases that ask nothing
 
 module _ (P : Exchange → Type 0) where
-  pub results_only : {A B : Type 0} (r : Result A Refusal) (others : A → Steps B) (left : Left)
+  pub results_only : {A B : Type 0} (r : Result A Refusal) (others : A → Steps B) (left : StepState)
       → ((x : A) → OnlyAsks P (others x) left) → OnlyAsks P (and_then (by_result r) others) left
   results_only (Ok x) others left o = o x
   results_only (Err why) others left o = tt
 
-  result_only : {A : Type 0} (r : Result A Refusal) (left : Left) → OnlyAsks P (by_result r) left
+  result_only : {A : Type 0} (r : Result A Refusal) (left : StepState) → OnlyAsks P (by_result r) left
   result_only (Ok x) left = tt
   result_only (Err why) left = tt
 
-  configured : {B : Type 0} (name : List ℕ) (others : List ConfigEntry → Steps B) (left : Left)
-      → ((rows : List ConfigEntry) (l : Left) → l.input ≡ left.input → l.tapes ≡ left.tapes
+  configured : {B : Type 0} (name : List ℕ) (others : List ConfigEntry → Steps B) (left : StepState)
+      → ((rows : List ConfigEntry) (l : StepState) → l.input ≡ left.input → l.tapes ≡ left.tapes
       → OnlyAsks P (others rows) l) → OnlyAsks P (and_then (configuration name) others) left
   configured name others left o = λ bytes r is. results_only r others _
       (λ rows. o rows _ refl refl)
 
   linked : {B : Type 0} (options : List (List ℕ × List ℕ)) (rows : List ConfigEntry)
-      (others : List Program → Steps B) (left : Left)
+      (others : List Program → Steps B) (left : StepState)
       → ((programs : List Program) → OnlyAsks P (others programs) left)
       → OnlyAsks P (and_then (linking_programs options rows) others) left
   linked options rows others left o = λ u v.
       results_only (settings_programs options (plugin_order rows)) others left o
 
   links_only : {A : Type 0} (programs : List Program) (next : Steps A)
-      → ((l : Left) → OnlyAsks P next l) → (left : Left)
+      → ((l : StepState) → OnlyAsks P next l) → (left : StepState)
       → OnlyAsks P (borrow_links programs next) left
   links_only [] next o left = o left
   links_only (program ∷ programs) next o left = links_only programs next o _
 
   draws_only : {A : Type 0} (size : ℕ) (next : List ℕ → Steps A)
-      → ((drawn : List ℕ) (l : Left) → OnlyAsks P (next drawn) l) → (left : Left)
+      → ((drawn : List ℕ) (l : StepState) → OnlyAsks P (next drawn) l) → (left : StepState)
       → OnlyAsks P (draw_some size next) left
   draws_only zero next o left = o [] left
   draws_only (suc more) next o left = λ bytes rest fits. o bytes _
 
-  shown_only : (value : Option (List ℕ)) (left : Left) → OnlyAsks P (value_steps value) left
+  shown_only : (value : Option (List ℕ)) (left : StepState) → OnlyAsks P (value_steps value) left
   shown_only None left = tt
   shown_only (Some value) left = tt
 
-  data_only : (read : Result Opened ValueNo) (left : Left) → OnlyAsks P (data_steps read) left
+  data_only : (read : Result Opened ValueNo) (left : StepState) → OnlyAsks P (data_steps read) left
   data_only (Ok opened) left = tt
   data_only (Err why) left = tt
 
-  given_only : (reading : Reading) (stale : Bool) (left : Left)
+  given_only : (reading : Reading) (stale : Bool) (left : StepState)
       → OnlyAsks P (reading_given reading stale) left
   given_only (data_of plain) stale left = tt
   given_only (refused why) stale left = tt
   given_only unopened stale left = λ none u. absurd none
 
   stored_only : {B : Type 0} (object : Object) (name : List ℕ) (others : Stored → Steps B)
-      → ((held : Stored) (l : Left) → OnlyAsks P (others held) l) → (left : Left)
+      → ((held : Stored) (l : StepState) → OnlyAsks P (others held) l) → (left : StepState)
       → OnlyAsks P (and_then (stored_on object name) others) left
   stored_only object name others o left = λ bytes agrees r is.
       results_only r others left (λ held. o held left)
 
   adding_only : {B : Type 0} (object : Object) (name : List ℕ) (store : Stored) (row : LogRow)
-      (others : Stored → Steps B) → ((grown : Stored) (l : Left) → OnlyAsks P (others grown) l)
-      → (left : Left) → OnlyAsks P (and_then (adding object name store row) others) left
+      (others : Stored → Steps B) → ((grown : Stored) (l : StepState) → OnlyAsks P (others grown) l)
+      → (left : StepState) → OnlyAsks P (and_then (adding object name store row) others) left
   adding_only object name store row others o left = only_then P others o
       (adding object name store row) left (λ u v. results_only (within_limit (with_row row store)) _
       left (λ grown told. tt))
 
-  copying_only : (name : List ℕ) (store : Stored) (rows : List LogRow) (left : Left)
+  copying_only : (name : List ℕ) (store : Stored) (rows : List LogRow) (left : StepState)
       → OnlyAsks P (copying name store rows) left
   copying_only name store [] left = tt
   copying_only name store (row ∷ rows) left = adding_only Target name store row
       (λ grown. copying name grown rows) (λ grown l. copying_only name grown rows l) left
 
-  copied_only : (to : List ℕ) (rows : List ConfigEntry) (source target : Stored) (left : Left)
+  copied_only : (to : List ℕ) (rows : List ConfigEntry) (source target : Stored) (left : StepState)
       → OnlyAsks P (copied_into to rows source target) left
   copied_only to rows source target left = λ u v.
       only_then P (λ copied. give (silently (migrated_line source.rows))) (λ copied l. tt)
       (copying to target (map (migrated_row rows) source.rows)) left
       (copying_only to target (map (migrated_row rows) source.rows) left)
 
-  target_only : (name : List ℕ) (left : Left) → OnlyAsks P (target_on name) left
+  target_only : (name : List ℕ) (left : StepState) → OnlyAsks P (target_on name) left
   target_only name left = λ bytes agrees. results_only (none_there bytes) (λ u. target_read name)
       left (λ u more also r is. result_only r left)
 
-  into_only : (to : List ℕ) (rows : List ConfigEntry) (source : Stored) (left : Left)
+  into_only : (to : List ℕ) (rows : List ConfigEntry) (source : Stored) (left : StepState)
       → OnlyAsks P (migrating_into to rows source) left
   into_only to rows source left =
-      let out : Left = with_tape true to (with_asked (Tape to ToMake) left) in
+      let out : StepState = with_tape true to (with_asked (Tape to ToMake) left) in
       only_then P (λ (made : Outcome). settle Target to (give made))
       (λ made l. tt) (and_then (target_on to) (copied_into to rows source)) out
       (only_then P (copied_into to rows source) (copied_only to rows source) (target_on to) out
       (target_only to out))
 
-  migrating_only : (words : Migration) (left : Left)
+  migrating_only : (words : Migration) (left : StepState)
       → OnlyAsks P (steps (Migrate words)) left
   migrating_only words left = configured words.config
       (λ rows. tape_for words.store ToRead
@@ -176,12 +176,12 @@ module _ (IsHeld : List ℕ → Type 0) where
   abbrev P : Exchange → Type 0
   P = IsQuestion IsHeld
 
-  seed_only : (plugin : List ℕ) (breach : Option (Field × List ℕ)) (left : Left)
+  seed_only : (plugin : List ℕ) (breach : Option (Field × List ℕ)) (left : StepState)
       → OnlyAsks P (unless_breach plugin breach (wrap_seed plugin)) left
   seed_only plugin None left = λ bytes rest fits. (λ answer. fits, λ wrapped h. tt)
   seed_only plugin (Some breach) left = tt
 
-  pub seeds_only : (plugins : List (List ℕ)) (left : Left) → OnlyAsks P (make_seeds plugins) left
+  pub seeds_only : (plugins : List (List ℕ)) (left : StepState) → OnlyAsks P (make_seeds plugins) left
   seeds_only [] left = tt
   seeds_only (plugin ∷ plugins) left = only_then P
       (λ row. and_then (make_seeds plugins) (λ rows. give (row ∷ rows)))
@@ -189,24 +189,24 @@ module _ (IsHeld : List ℕ → Type 0) where
       (seeds_only plugins l)) (make_seed plugin) left
       (λ answer. tt, λ status h. seed_only plugin (breach_in status) _)
 
-  sealed_only : (seeds : List SeedRow) (who : Who) (path plain : List ℕ) (left : Left)
+  sealed_only : (seeds : List SeedRow) (who : Who) (path plain : List ℕ) (left : StepState)
       → OnlyAsks P (value_sealed seeds who path plain) left
   sealed_only seeds who path plain left = λ u v. draws_only P (draw_size who)
       (λ drawn. give (sealed_by seeds who path plain drawn)) (λ drawn l. tt) left
 
   fetched_only : {A : Type 0} (seed : Option (List ℕ)) (kept : CacheState) (key : SeedKey)
-      (next : Option (List ℕ) → CacheState → Steps A) (left : Left)
+      (next : Option (List ℕ) → CacheState → Steps A) (left : StepState)
       → ((answer : Result (List ℕ) KmsNo) → P (UnwrapCall key answer))
-      → ((o : Option (List ℕ)) (after : CacheState) (l : Left) → OnlyAsks P (next o after) l)
+      → ((o : Option (List ℕ)) (after : CacheState) (l : StepState) → OnlyAsks P (next o after) l)
       → OnlyAsks P (fetching seed kept key next) left
   fetched_only (Some seed) kept key next left asks o = o (Some seed) (with_used kept key) left
   fetched_only None kept key next left asks o =
       (asks, λ bytes h. λ after keeps. o (Some bytes) after _)
 
   source_only : {A : Type 0} (source : Option (List ℕ)) (kept : CacheState) (key : SeedKey)
-      (next : Option (List ℕ) → CacheState → Steps A) (left : Left)
+      (next : Option (List ℕ) → CacheState → Steps A) (left : StepState)
       → ((answer : Result (List ℕ) KmsNo) → P (UnwrapCall key answer))
-      → ((o : Option (List ℕ)) (after : CacheState) (l : Left) → OnlyAsks P (next o after) l)
+      → ((o : Option (List ℕ)) (after : CacheState) (l : StepState) → OnlyAsks P (next o after) l)
       → OnlyAsks P (source_steps source kept key next) left
   source_only (Some seed) kept key next left asks o = o (Some seed) kept left
   source_only None kept key next left asks o =
@@ -214,9 +214,9 @@ module _ (IsHeld : List ℕ → Type 0) where
 
   opened_only : {A : Type 0} (seeds : List SeedRow) (reader : Option Who) (bytes : List ℕ)
       (object : Result EncryptedObject ObjectNo) (kept : CacheState)
-      (next : Option (List ℕ) → CacheState → Steps A) (left : Left)
+      (next : Option (List ℕ) → CacheState → Steps A) (left : StepState)
       → IsHeld bytes → HasObject reader bytes object
-      → ((o : Option (List ℕ)) (after : CacheState) (l : Left) → OnlyAsks P (next o after) l)
+      → ((o : Option (List ℕ)) (after : CacheState) (l : StepState) → OnlyAsks P (next o after) l)
       → OnlyAsks P (opening seeds reader object kept next) left
   opened_only seeds (Some (Kms name)) bytes (Ok object) kept next left held has o =
       source_only (published_source (seed_of name seeds) (seed_key name object)) kept
@@ -225,7 +225,7 @@ module _ (IsHeld : List ℕ → Type 0) where
 
   with_only : (seeds : List SeedRow) (list : List Who) (path bytes : List ℕ)
       (object : Result EncryptedObject ObjectNo) (source : Option (List ℕ)) (kept : CacheState)
-      (left : Left) → OnlyAsks P (value_with seeds list path bytes object source kept) left
+      (left : StepState) → OnlyAsks P (value_with seeds list path bytes object source kept) left
   with_only seeds list path bytes object source kept left =
       let envelope : Envelope = record { object = object; source = source } in
       only_then P (λ read. give (read, kept)) (λ read l. tt)
@@ -234,14 +234,14 @@ module _ (IsHeld : List ℕ → Type 0) where
       (is_stale envelope seeds list bytes) left)
 
   pub value_only : (seeds : List SeedRow) (list : List Who) (path bytes : List ℕ) (kept : CacheState)
-      (left : Left) → IsHeld bytes → OnlyAsks P (value_read seeds list path bytes kept) left
+      (left : StepState) → IsHeld bytes → OnlyAsks P (value_read seeds list path bytes kept) left
   value_only seeds list path bytes kept left held = λ object has.
       opened_only seeds (reader_in list bytes) bytes object kept
       (value_with seeds list path bytes object) left held has
       (with_only seeds list path bytes object)
 
   work_only : (direction : Direction) (resource path : List ℕ) (rows : List ConfigEntry) (bytes : List ℕ)
-      (seeds : List SeedRow) (left : Left) → (direction ≡ Decrypt → IsHeld bytes)
+      (seeds : List SeedRow) (left : StepState) → (direction ≡ Decrypt → IsHeld bytes)
       → OnlyAsks P (working_by direction resource path rows bytes seeds) left
   work_only Encrypt resource path rows bytes seeds left held =
       let writer = writer_of (list_of rows resource) in
@@ -254,7 +254,7 @@ module _ (IsHeld : List ℕ → Type 0) where
       (value_only seeds list path bytes none_kept left (held refl))
 
   bench_only : (programs : List Program) (direction : Direction) (resource path : List ℕ)
-      (rows : List ConfigEntry) (bytes : List ℕ) (left : Left) → (direction ≡ Decrypt → IsHeld bytes)
+      (rows : List ConfigEntry) (bytes : List ℕ) (left : StepState) → (direction ≡ Decrypt → IsHeld bytes)
       → OnlyAsks P (bench_steps programs direction resource path rows bytes) left
   bench_only programs direction resource path rows bytes left held =
       links_only P programs (working direction resource path rows bytes)
@@ -262,7 +262,7 @@ module _ (IsHeld : List ℕ → Type 0) where
       (λ seeds m. work_only direction resource path rows bytes seeds m held)
       (make_seeds (plugin_order rows)) l (seeds_only (plugin_order rows) l)) _
 
-  findings_only : (p : Publication) (rows : List stored.Row) (kept : CacheState) (left : Left)
+  findings_only : (p : Publication) (rows : List stored.Row) (kept : CacheState) (left : StepState)
       → ((row : stored.Row) → Contains rows row → IsHeld row.stored)
       → OnlyAsks P (row_findings p rows kept) left
   findings_only p [] kept left held = tt
@@ -278,7 +278,7 @@ module _ (IsHeld : List ℕ → Type 0) where
       (value_only p.seeds (list_of p.rows row.resource) row.path row.stored kept left
       (held row (0, omega arith, refl))))
 
-  verified_only : (programs : List Program) (rows : List ConfigEntry) (found : List stored.Row) (left : Left)
+  verified_only : (programs : List Program) (rows : List ConfigEntry) (found : List stored.Row) (left : StepState)
       → ((row : stored.Row) → Contains found row → IsHeld row.stored)
       → OnlyAsks P (verifying_with programs rows found) left
   verified_only programs rows found left held =
@@ -293,7 +293,7 @@ module _ (IsHeld : List ℕ → Type 0) where
   -- ---- the rows of a rewrite
 
   replacing_only : (name : List ℕ) (p : Publication) (row : stored.Row) (at : Progress)
-      (value : Option (List ℕ)) (left : Left) → OnlyAsks P (replacing name p row at value) left
+      (value : Option (List ℕ)) (left : StepState) → OnlyAsks P (replacing name p row at value) left
   replacing_only name p row at None left = tt
   replacing_only name p row at (Some value) left =
       let new = row_anew at.store.format p row value in
@@ -301,7 +301,7 @@ module _ (IsHeld : List ℕ → Type 0) where
       (λ grown l. tt) left
 
   resealing_only : (long : Bool) (name : List ℕ) (p : Publication) (row : stored.Row)
-      (plain : List ℕ) (at : Progress) (left : Left)
+      (plain : List ℕ) (at : Progress) (left : StepState)
       → OnlyAsks P (resealing long name p row plain at) left
   resealing_only true name p row plain at left = tt
   resealing_only false name p row plain at left =
@@ -310,20 +310,20 @@ module _ (IsHeld : List ℕ → Type 0) where
       (value_sealed p.seeds who row.path plain) left (sealed_only p.seeds who row.path plain left)
 
   row_data_only : (name : List ℕ) (p : Publication) (row : stored.Row) (at : Progress)
-      (plain : List ℕ) (stale : Bool) (left : Left)
+      (plain : List ℕ) (stale : Bool) (left : StepState)
       → OnlyAsks P (row_data name p row at plain stale) left
   row_data_only name p row at plain false left = tt
   row_data_only name p row at plain true left = λ u v.
       resealing_only (nat_lt data_limit (length plain)) name p row plain at left
 
   row_by_only : (name : List ℕ) (p : Publication) (row : stored.Row) (at : Progress)
-      (read : Result Opened ValueNo) (left : Left) → OnlyAsks P (row_by name p row at read) left
+      (read : Result Opened ValueNo) (left : StepState) → OnlyAsks P (row_by name p row at read) left
   row_by_only name p row at (Ok opened) left =
       row_data_only name p row at opened.plain opened.stale left
   row_by_only name p row at (Err why) left = tt
 
   driving_only : (name : List ℕ) (p : Publication) (rows : List stored.Row) (kept : CacheState)
-      (at : Progress) (left : Left)
+      (at : Progress) (left : StepState)
       → ((row : stored.Row) → Contains rows row → IsHeld row.stored)
       → OnlyAsks P (driving name p rows kept at) left
   driving_only name p [] kept at left held = λ told u v. tt
@@ -340,7 +340,7 @@ module _ (IsHeld : List ℕ → Type 0) where
       (value_only p.seeds list row.path row.stored kept _ (held row (0, omega arith, refl))))
 
   rewritten_only : (name : List ℕ) (programs : List Program) (rows : List ConfigEntry)
-      (store : Stored) (found : List stored.Row) (left : Left)
+      (store : Stored) (found : List stored.Row) (left : StepState)
       → ((row : stored.Row) → Contains found row → IsHeld row.stored)
       → OnlyAsks P (rewriting_live name rows programs store found) left
   rewritten_only name programs rows store found left held =
@@ -365,10 +365,10 @@ whole (Some all) None bytes c e = absurd c
 whole (Some all) (Some rest) bytes c e =
     c ∙ ap (λ r. bytes ++ r) e ∙ append-nil bytes
 
-module _ (old : Around) where
+module _ (old : Environment) where
   -- where a command begins, that asked nothing before
-  abbrev begin : Left
-  begin = record (left_of old) { heard = Some [] }
+  abbrev begin : StepState
+  begin = record (step_state old) { heard = Some [] }
 
   input_held : (direction : Direction) (bytes : List ℕ) → Agrees old.input bytes
       → direction ≡ Decrypt → IsInput direction old bytes
@@ -414,7 +414,7 @@ module _ (old : Around) where
 
   gets : (words : Lookup) → OnlyAsks (Sees (Get words) old) (steps (Get words)) begin
   gets words =
-      let P = IsQuestion (IsRowOf words old) in
+      let P = IsQuestion (IsStoredValue words old) in
       configured P words.config (λ rows. and_then (linking_programs words.options rows) (λ programs.
       and_then (read_for words.store (row_on words.store words.path)) (λ row.
       bench_steps programs Decrypt row.resource words.path rows row.stored))) begin
@@ -424,17 +424,17 @@ module _ (old : Around) where
       (λ programs. λ bytes agrees r is. on_store programs rows _ bytes
       (subst (λ tapes. Agrees (tapes words.store) (Some bytes)) t agrees) r is))
     where
-      at : (programs : List Program) (rows : List ConfigEntry) (left : Left) (bytes : List ℕ)
+      at : (programs : List Program) (rows : List ConfigEntry) (left : StepState) (bytes : List ℕ)
           → Agrees (old.world.tapes.told words.store) (Some bytes) → (held : Stored)
           → IsStored bytes (Ok held) → (found : Option stored.Row)
           → live held.rows words.path ≡ found
-          → OnlyAsks (IsQuestion (IsRowOf words old))
+          → OnlyAsks (IsQuestion (IsStoredValue words old))
           (and_then (and_then (by_result (row_found words.path found)) (λ made.
           give_back words.store (give made))) (λ row.
           bench_steps programs Decrypt row.resource words.path rows row.stored)) left
       at programs rows left bytes agrees held read None is = tt
       at programs rows left bytes agrees held read (Some row) is =
-          bench_only (IsRowOf words old) programs Decrypt row.resource words.path rows row.stored
+          bench_only (IsStoredValue words old) programs Decrypt row.resource words.path rows row.stored
           (with_asked (Returned words.store) left) (λ d. record {
             bytes = bytes;
             store = held;
@@ -445,9 +445,9 @@ module _ (old : Around) where
             is = refl;
           })
 
-      on_store : (programs : List Program) (rows : List ConfigEntry) (left : Left) (bytes : List ℕ)
+      on_store : (programs : List Program) (rows : List ConfigEntry) (left : StepState) (bytes : List ℕ)
           → Agrees (old.world.tapes.told words.store) (Some bytes) → (r : Result Stored Refusal)
-          → IsStored bytes r → OnlyAsks (IsQuestion (IsRowOf words old))
+          → IsStored bytes r → OnlyAsks (IsQuestion (IsStoredValue words old))
           (and_then (and_then (and_then (by_result r)
           (λ read. with_memory (by_result (row_found words.path (live read.rows words.path)))))
           (λ made. give_back words.store (give made)))
@@ -492,7 +492,7 @@ module _ (old : Around) where
       (λ programs. λ bytes agrees r is. on_store programs rows _ bytes
       (subst (λ tapes. Agrees (tapes words.store) (Some bytes)) t agrees) r is))
     where
-      on_store : (programs : List Program) (rows : List ConfigEntry) (left : Left) (bytes : List ℕ)
+      on_store : (programs : List Program) (rows : List ConfigEntry) (left : StepState) (bytes : List ℕ)
           → Agrees (old.world.tapes.told words.store) (Some bytes) → (r : Result Stored Refusal)
           → IsStored bytes r → OnlyAsks (IsQuestion (IsLiveOf words old))
           (and_then (and_then (and_then (by_result r)
@@ -517,7 +517,7 @@ module _ (old : Around) where
       (λ bytes agrees r is. on_store programs rows _ bytes
       (subst (λ tapes. Agrees (tapes words.store) (Some bytes)) t agrees) r is)))
     where
-      on_store : (programs : List Program) (rows : List ConfigEntry) (left : Left) (bytes : List ℕ)
+      on_store : (programs : List Program) (rows : List ConfigEntry) (left : StepState) (bytes : List ℕ)
           → Agrees (old.world.tapes.told words.store) (Some bytes) → (r : Result Stored Refusal)
           → IsStored bytes r → OnlyAsks (IsQuestion (IsLiveOf (verified_as words) old))
           (and_then (by_result r) (λ store.
@@ -541,38 +541,38 @@ module _ (old : Around) where
 -- ---- a run
 
 -- what closes a command asks nothing
-closed_heard : (command : Command) (stop point : Point Outcome) (end last : Left)
+closed_heard : (command : Command) (stop point : Point Outcome) (end last : StepState)
     → Closes command stop end point last → last.heard ≡ end.heard
-closed_heard command stop point end last (inl (nothing, e)) = ap (λ (l : Left). l.heard) e.1
+closed_heard command stop point end last (inl (nothing, e)) = ap (λ (l : StepState). l.heard) e.1
 closed_heard command stop point end last (inr (is, (name, reports, inl e))) =
-    ap (λ (l : Left). l.heard) e.1
+    ap (λ (l : StepState). l.heard) e.1
 closed_heard command stop point end last (inr (is, (name, reports, inr e))) =
-    ap (λ (l : Left). l.heard) e.1
+    ap (λ (l : StepState). l.heard) e.1
 
-module _ (words : List (List ℕ)) (old new : Around) (exchanges : List Exchange) (command : Command)
+module _ (words : List (List ℕ)) (old new : Environment) (exchanges : List Exchange) (command : Command)
     (asks : Asks words command) where
-  abbrev silence : Around
+  abbrev silence : Environment
   silence = record old { heard = Some [] }
 
-  abbrev now : Around
+  abbrev now : Environment
   now = record new { heard = Some exchanges }
 
   abbrev Seen : Type 0
   Seen = All (Sees command old) exchanges
 
   reached : (said : List ℕ) (c : Command) (point : Point Outcome) → Asks words c
-      → ReachesEnd c (left_of silence) (with_what_is_said said now) point → Seen
+      → ReachesEnd c (step_state silence) (with_what_is_said said now) point → Seen
   reached said c point also r =
-      let goes = subst (λ d. Goes r.stop r.end (steps d) (left_of silence))
+      let goes = subst (λ d. RunTo r.stop r.end (steps d) (step_state silence))
       (one_command also asks) r.goes in
       let end_heard : Some exchanges ≡ r.end.heard =
       r.stays.heard ∙ closed_heard c r.stop point r.end r.last r.closes in
       subst (AllHeard (Sees command old)) (sym end_heard)
-      (only_asked (Sees command old) r.stop r.end (steps command) (left_of silence)
+      (only_asked (Sees command old) r.stop r.end (steps command) (step_state silence)
       (command_asks old command) (All-nil (Sees command old)) goes)
 
   ended : (said : List ℕ) (made : Result Outcome Stop) (c : Command) → Asks words c
-      → EndsAll c (left_of silence) silence (with_what_is_said said now) made → Seen
+      → EndsAll c (step_state silence) silence (with_what_is_said said now) made → Seen
   ended said (Ok made) c also r = reached said c (gives made) also r
   ended said (Err (Words why)) c also r = absurd r
   ended said (Err (Refused why)) c also r = reached said c (refuses why) also r
@@ -584,7 +584,7 @@ module _ (words : List (List ℕ)) (old new : Around) (exchanges : List Exchange
   answered : (output : Receipt) (result : Result Done Stop)
       → Answers words silence now output result → Seen
   answered output result (inl (stops, same)) =
-      let e : Some exchanges ≡ Some [] = ap (λ (a : Around). a.heard) same.0 in
+      let e : Some exchanges ≡ Some [] = ap (λ (a : Environment). a.heard) same.0 in
       subst (AllHeard (Sees command old)) (sym e) (All-nil (Sees command old))
   answered output result (inr (said, made, did, writes)) =
       ended said made did.command did.asks did.ends

@@ -34,7 +34,7 @@ use Rattle.kr_cmd_steps.specs.ValueSteps.{bench_steps, draw_some, reading_given,
 use Rattle.kr_cmd_steps.specs.Commands.{steps}
 use Rattle.kr_cmd_steps.specs.RowFindings.{finding_of}
 use Rattle.kr_cmd_steps.specs.Plugins.{borrow_links, make_seed, make_seeds, settings_programs, unless_breach, wrap_seed}
-use Rattle.kr_cmd_steps.specs.Steps.{Steps, load, take_input, borrow_dice, borrow_tape, read_tape, write_row, keep_rows, settle, give_back, draw, borrow_link, ask_status, wrap, unwrap, note, find, refuse, give, and_then, Point, Left, Goes}
+use Rattle.kr_cmd_steps.specs.Steps.{Steps, load, take_input, borrow_dice, borrow_tape, read_tape, write_row, keep_rows, settle, give_back, draw, borrow_link, ask_status, wrap, unwrap, note, find, refuse, give, and_then, Point, StepState, RunTo}
 use Rattle.kr_cmd_messages.specs.declared.command.Command.TheVariants.{Verify}
 use Rattle.kr_cmd_messages.specs.declared.command.Command.{Command}
 use Rattle.kr_cmd_messages.specs.declared.command.Command.TheVariants.{Convert, Put, Get, Migrate, Rewrite}
@@ -83,21 +83,21 @@ IsOnTape tape next = Writes (λ name. name ≡ tape) next
 
 -- ---- a tape of another name stays
 
-module _ {A : Type 0} (May : List ℕ → Type 0) (p : Point A) (end : Left) (other : List ℕ)
+module _ {A : Type 0} (May : List ℕ → Type 0) (p : Point A) (end : StepState) (other : List ℕ)
     (apart : (name : List ℕ) → May name → same_name name other ≡ false) where
-  abbrev Stays : Left → Type 0
+  abbrev Stays : StepState → Type 0
   Stays left = end.tapes other ≡ left.tapes other
 
-  at_end : {left : Left} {here : Point A} → (p ≡ here) × (end ≡ left) → Stays left
+  at_end : {left : StepState} {here : Point A} → (p ≡ here) × (end ≡ left) → Stays left
   at_end at = ap (λ l. l.tapes other) at.1
 
-  behind : (name : List ℕ) (told : Option (List ℕ)) (left : Left) → May name
+  behind : (name : List ℕ) (told : Option (List ℕ)) (left : StepState) → May name
       → end.tapes other ≡ (if same_name name other then option_map Some told else left.tapes other)
       → Stays left
   behind name told left may s =
       s ∙ ap (λ q. if q then option_map Some told else left.tapes other) (apart name may)
 
-  stays : (next : Steps A) (left : Left) → Writes May next → Goes p end next left → Stays left
+  stays : (next : Steps A) (left : StepState) → Writes May next → RunTo p end next left → Stays left
   stays (load name next) left r (inl at) = at_end at
   stays (load name next) left r (inr (inl at)) = at_end at
   stays (load name next) left r (inr (inr (bytes, agrees, goes))) =
@@ -156,12 +156,12 @@ module _ {A : Type 0} (May : List ℕ → Type 0) (p : Point A) (end : Left) (ot
   stays (refuse why) left r at = at_end at
   stays (give x) left r at = at_end at
 
-module _ {A : Type 0} (p : Point A) (end : Left) (next : Steps A) (left : Left) where
-  pub leaves_tapes : IsReadOnly next → Goes p end next left → end.tapes ≡ left.tapes
+module _ {A : Type 0} (p : Point A) (end : StepState) (next : Steps A) (left : StepState) where
+  pub leaves_tapes : IsReadOnly next → RunTo p end next left → end.tapes ≡ left.tapes
   leaves_tapes r goes = λ i other.
       stays (λ name. ⊥) p end other (λ name none. absurd none) next left r goes i
 
-  pub others_stay : (tape : List ℕ) → IsOnTape tape next → Goes p end next left
+  pub others_stay : (tape : List ℕ) → IsOnTape tape next → RunTo p end next left
       → OthersStay tape left.tapes end.tapes
   others_stay tape r goes = λ other f. stays (λ name. name ≡ tape) p end other
       (λ name is. ap (λ n. same_name n other) is ∙ f) next left r goes

@@ -6,7 +6,7 @@ use Rattle.kr_base.specs.Streams.{AppendsFront}
 use Rattle.kr_kms.specs.Outside.{file_faults}
 use Rattle.kr_config.specs.declared.refusal.ConfigNo.{ConfigNo}
 use Rattle.kr_config.specs.declared.refusal.ConfigNo.TheVariants as config
-use Rattle.kr_cmd_steps.specs.Around.{Around, with_what_is_said, left_of, IsHome, IsFault, MayLack, faults_at, count_at}
+use Rattle.kr_cmd_steps.specs.Environment.{Environment, with_what_is_said, step_state, IsHome, IsFault, MayLack, faults_at, count_at}
 use Rattle.kr_cmd_messages.specs.Command.{Asks, AskBadly, AskPage, AskReplicas, AskSize}
 use Rattle.kr_cmd_messages.specs.Message.{status_of, status_of_done, status_of_configuration, status_of_refusal, line_of, fault_line}
 use Rattle.kr_cmd_steps.specs.Steps.{Call, loading, opening, lending, object_of, Point, awaits, amid, refuses, gives, linking}
@@ -63,7 +63,7 @@ sum_rose loads tapes dice links l t d k a b c e (inr (inl r)) = grind arith
 sum_rose loads tapes dice links l t d k a b c e (inr (inr (inl r))) = grind arith
 sum_rose loads tapes dice links l t d k a b c e (inr (inr (inr r))) = grind arith
 
-file_rose : {old new : Around} → IsHome old new
+file_rose : {old new : Environment} → IsHome old new
     → Rose old.world.faults.loads new.world.faults.loads
     ⊎ Rose old.world.faults.tapes new.world.faults.tapes
     ⊎ Rose old.world.faults.dice new.world.faults.dice
@@ -76,7 +76,7 @@ file_rose {old} {new} h r =
     h.files.later.links r
 
 -- a call that failed raised its object's count
-pub object_rose : {old new : Around} (call : Call) → IsHome old new
+pub object_rose : {old new : Environment} (call : Call) → IsHome old new
     → Rose (faults_at call old) (faults_at call new) → Rose (count_at call old) (count_at call new)
 object_rose (loading name) h r = file_rose h (inl r)
 object_rose (opening seat) h r = file_rose h (inr (inr (inl r)))
@@ -93,7 +93,7 @@ whole_front old new value a = (
 )
 
 -- what was said is no call's
-module _ (said : List ℕ) (a : Around) where
+module _ (said : List ℕ) (a : Environment) where
   same_faults : (call : Call) → faults_at call (with_what_is_said said a) ≡ faults_at call a
   same_faults (loading name) = refl
   same_faults other = refl
@@ -103,7 +103,7 @@ module _ (said : List ℕ) (a : Around) where
   same_count other = refl
 
 -- what is around is at home too
-home_saying : (old new : Around) (said : List ℕ) → IsHome old (with_what_is_said said new)
+home_saying : (old new : Environment) (said : List ℕ) → IsHome old (with_what_is_said said new)
     → IsHome old new
 home_saying old new said home = record {
   files = home.files;
@@ -113,10 +113,10 @@ home_saying old new said home = record {
   input = home.input;
 }
 
-pub comes_saying : (words : List (List ℕ)) (old new : Around) (said : List ℕ)
+pub comes_saying : (words : List (List ℕ)) (old new : Environment) (said : List ℕ)
     {made : Result Outcome Stop} {point : Point Outcome}
     (did : Did words old (with_what_is_said said new) made)
-    → ReachesEnd did.command (left_of old) (with_what_is_said said new) point
+    → ReachesEnd did.command (step_state old) (with_what_is_said said new) point
     → ComesSaying words old new said point
 comes_saying words old new said did r = record {
   command = did.command;
@@ -127,7 +127,7 @@ comes_saying words old new said did r = record {
 
 -- ---- by how the call ended
 
-module _ (words : List (List ℕ)) (old new : Around) (output errors : Receipt) (status : ℕ) where
+module _ (words : List (List ℕ)) (old new : Environment) (output errors : Receipt) (status : ℕ) where
   -- the line was written, and the status is that of the result
   abbrev Told : Result Done Stop → Type 0
   Told r = (status ≡ status_of r) × Appends errors.old errors.new (line_of r)
@@ -225,11 +225,11 @@ module _ (words : List (List ℕ)) (old new : Around) (output errors : Receipt) 
   }
 
   module _ (said : List ℕ) where
-    abbrev Now : Around
+    abbrev Now : Environment
     Now = with_what_is_said said new
 
     comes : {made : Result Outcome Stop} {point : Point Outcome} (did : Did words old Now made)
-        → ReachesEnd did.command (left_of old) Now point → ComesSaying words old new said point
+        → ReachesEnd did.command (step_state old) Now point → ComesSaying words old new said point
     comes did r = comes_saying words old new said did r
 
   -- the line has the object and the count
@@ -256,8 +256,8 @@ module _ (words : List (List ℕ)) (old new : Around) (output errors : Receipt) 
     stopped NoMemory did = ended did.ends
       where
         ended : ((call : Call) × MayLack call
-            × ReachesEnd did.command (left_of old) (Now said) (awaits call))
-            ⊎ ReachesEnd did.command (left_of old) (Now said) amid
+            × ReachesEnd did.command (step_state old) (Now said) (awaits call))
+            ⊎ ReachesEnd did.command (step_state old) (Now said) amid
             → (point : Point Outcome) × ComesSaying words old new said point
         ended (inl (call, may, r)) = (awaits call, comes said did r)
         ended (inr r) = (amid, comes said did r)
@@ -321,7 +321,7 @@ module _ (words : List (List ℕ)) (old new : Around) (output errors : Receipt) 
   front_of r (inr (said, Err stop, did, w)) = reported said stop did w.1
   front_of (Err other) (inr (said, Ok made, did, w)) = absurd w
 
-pub readings : (words : List (List ℕ)) (old new : Around) (output errors : Receipt) (status : ℕ)
+pub readings : (words : List (List ℕ)) (old new : Environment) (output errors : Receipt) (status : ℕ)
     (r : Result Done Stop) → Answers words old new output r
     → Tells (line_of r) (status_of r) errors status
     → Readings words old new output errors status

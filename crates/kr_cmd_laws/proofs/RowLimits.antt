@@ -27,19 +27,19 @@ use Rattle.kr_cmd_steps.specs.Phases.{adding, by_result}
 use Rattle.kr_cmd_steps.specs.RewriteSteps.{Progress, driving, one_fresh, one_rewritten, replacing, resealing, row_anew, row_by, row_data, row_steps}
 use Rattle.kr_cmd_steps.specs.StoreFiles.{Stored, with_row}
 use Rattle.kr_cmd_steps.specs.ValueSteps.{draw_some, reading_given, value_read, value_sealed, value_with, fetching}
-use Rattle.kr_cmd_steps.specs.Steps.{Steps, write_row, give, and_then, Point, awaits, amid, refuses, gives, Left, Goes}
-use Rattle.kr_cmd_steps.proofs.Goes.{Further}
+use Rattle.kr_cmd_steps.specs.Steps.{Steps, write_row, give, and_then, Point, awaits, amid, refuses, gives, StepState, RunTo}
+use Rattle.kr_cmd_steps.proofs.RunTo.{Further}
 use Rattle.kr_cmd_laws.proofs.Behind.{parted}
 use Rattle.kr_cmd_laws.proofs.OpeningSteps.{opens}
 
 -- this point is no refusal
-abbrev IsNone : {A : Type 0} → Point A → Type 0
-IsNone (refuses why) = ⊥
-IsNone point = Unit {0}
+abbrev IsNoRefusal : {A : Type 0} → Point A → Type 0
+IsNoRefusal (refuses why) = ⊥
+IsNoRefusal point = Unit {0}
 
-none_refused : {A B : Type 0} {why : Refusal} {here : Point A} → refuses why ≡ here → IsNone here
+none_refused : {A B : Type 0} {why : Refusal} {here : Point A} → refuses why ≡ here → IsNoRefusal here
     → B
-none_refused {A} {B} e none = absurd (subst (λ (q : Point A). IsNone q) (sym e) none)
+none_refused {A} {B} e none = absurd (subst (λ (q : Point A). IsNoRefusal q) (sym e) none)
 
 abbrev refusal_of : {A : Type 0} → Refusal → Point A → Refusal
 refusal_of other (refuses why) = why
@@ -53,7 +53,7 @@ module _ (P : Refusal → Type 0) where
 
   -- steps refuse nothing but this
   abbrev pub RefusesOnly : {A : Type 0} → Steps A → Type 0
-  RefusesOnly s = (why : Refusal) (end left : Left) → Goes (refuses why) end s left → P why
+  RefusesOnly s = (why : Refusal) (end left : StepState) → RunTo (refuses why) end s left → P why
 
   give_refuses : {A : Type 0} (x : A) → RefusesOnly (give x)
   give_refuses x why end left at = none_refused at.0 tt
@@ -63,7 +63,7 @@ module _ (P : Refusal → Type 0) where
   refuses_then {A} {B} others o first f why end left goes =
       let r = parted others (refuses why) end first left goes in by r.0 r.1 r.2 r.3
     where
-      by : (q : Point A) (mid : Left) → Goes q mid first left
+      by : (q : Point A) (mid : StepState) → RunTo q mid first left
           → Further (refuses why) end others q mid → P why
       by (awaits call) mid g at = none_refused at.0 tt
       by amid mid g at = none_refused at.0 tt
@@ -131,7 +131,7 @@ module _ (P : Refusal → Type 0) where
     adding_refuses store row why end left (inr (u, v, goes)) =
         by (nat_lt store_limit (length (file_bytes store.format (store.rows ++ row ∷ [])))) goes
       where
-        by : (large : Bool) → Goes (refuses why) end (and_then
+        by : (large : Bool) → RunTo (refuses why) end (and_then
             (by_result (if large then Err (Limit limit.Store) else Ok (with_row row store)))
             (λ grown. write_row Store name store row (give grown))) left → P why
         by true at = same_refusal why (Limit limit.Store) at.0 full

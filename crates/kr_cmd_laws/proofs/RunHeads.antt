@@ -34,7 +34,7 @@ use Rattle.kr_cmd_messages.specs.declared.refusal.Object.{Object}
 use Rattle.kr_cmd_messages.specs.declared.refusal.Object.TheVariants.{Output}
 use Rattle.kr_cmd_messages.specs.declared.refusal.Stop.{Stop}
 use Rattle.kr_cmd_messages.specs.declared.refusal.Stop.TheVariants.{Words, Refused, Fault, NoMemory}
-use Rattle.kr_cmd_steps.specs.Around.{Around}
+use Rattle.kr_cmd_steps.specs.Environment.{Environment}
 use Rattle.kr_cmd_steps.specs.Steps.{hearing}
 use Rattle.kr_cmd_steps.specs.declared.programs.Program.{Program}
 use Rattle.kr_cmd_fleet.specs.Fleets.{Begun, RunsFleet, Starts, StopsBefore, TellsFleet, WritesFleet, fleet_steps, opening_of, settled_behind, text_of}
@@ -58,7 +58,7 @@ walk_agrees opens (e ∷ es) old new agree walk = (
 
 module _ {T L D : Type 0} (link : L → Link) (step : L → Exchange → L → Type 0)
     (left : D → Option (List ℕ))
-    (count : D → ℕ) (store : List ℕ) (begun : Begun) (mid new : Around) (history : List Entry)
+    (count : D → ℕ) (store : List ℕ) (begun : Begun) (mid new : Environment) (history : List Entry)
     (ended : List (fleet_worker.Worker T L D))
     (r : RunsFleet link step left count store begun mid new history ended) where
   left_so : LeavesStore store begun mid new history
@@ -169,7 +169,7 @@ prints text ending output errors status (Err other) w t = absurd w
 
 module _ (T : Type 0) {L D : Type 0} (link : L → Link)
     (step : L → Exchange → L → Type 0) (lent took : ℕ → L → Type 0)
-    (left : D → Option (List ℕ)) (count : D → ℕ) (words : FleetWords) (old new : Around)
+    (left : D → Option (List ℕ)) (count : D → ℕ) (words : FleetWords) (old new : Environment)
     (output errors : Receipt) (status : ℕ) where
   started : (exchanges : List Exchange) → new.heard ≡ hearing exchanges old.heard
       → (result : Result Ending Stop)

@@ -9,7 +9,7 @@ use Rattle.kr_kms.specs.declared.seeds.SeedRow.{SeedRow}
 use Rattle.kr_cmd_steps.specs.Phases.{by_result}
 use Rattle.kr_kms.specs.declared.plugin.Status.{Status}
 use Rattle.kr_cmd_steps.specs.Plugins.{borrow_links_of, make_seeds, seed_row, unless_breach, wrap_seed}
-use Rattle.kr_cmd_steps.specs.Steps.{Steps, load, take_input, borrow_dice, borrow_tape, read_tape, write_row, keep_rows, settle, give_back, draw, borrow_link, ask_status, wrap, unwrap, note, find, refuse, give, and_then, Left, with_dice, or_empty}
+use Rattle.kr_cmd_steps.specs.Steps.{Steps, load, take_input, borrow_dice, borrow_tape, read_tape, write_row, keep_rows, settle, give_back, draw, borrow_link, ask_status, wrap, unwrap, note, find, refuse, give, and_then, StepState, with_dice, or_empty}
 use Rattle.kr_cmd_steps.specs.declared.programs.Program.{Program}
 use Rattle.kr_cmd_messages.specs.declared.refusal.Refusal.{Refusal}
 use Rattle.kr_cmd_messages.specs.declared.refusal.Outcome.{Outcome}
@@ -18,8 +18,8 @@ use Rattle.kr_cmd_laws.proofs.OnePoint.{IsSettled}
 -- ---- links and seeds
 
 module _ (next : Steps Outcome) (first : ℕ × List ℕ → Option Status)
-    (go_on : (l r : Left) → l.links ≡ first → r.links ≡ first → IsSettled next next l r) where
-  pub settled_links_of : (seat : ℕ) (programs : List Program) (l r : Left) → l.links ≡ first
+    (go_on : (l r : StepState) → l.links ≡ first → r.links ≡ first → IsSettled next next l r) where
+  pub settled_links_of : (seat : ℕ) (programs : List Program) (l r : StepState) → l.links ≡ first
       → r.links ≡ first → IsSettled (borrow_links_of seat programs next)
       (borrow_links_of seat programs next) l r
   settled_links_of seat [] l r x y = go_on l r x y
@@ -60,10 +60,10 @@ names_made seeds = map (λ row. row.name) seeds
 abbrev more_seeds : List (List ℕ) → SeedRow → Steps (List SeedRow)
 more_seeds names row = and_then (make_seeds names) (λ rows. give (row ∷ rows))
 
-pub settled_seeds : (names : List (List ℕ)) (left right : Left) → right.links ≡ left.links
+pub settled_seeds : (names : List (List ℕ)) (left right : StepState) → right.links ≡ left.links
     → ((plugin : List ℕ) → Contains names plugin → IsSome (left.links (0, plugin)))
     → (next more : List SeedRow → Steps Outcome)
-    → ((a b : List SeedRow) (l r : Left) → names_made a ≡ names → names_made b ≡ names
+    → ((a b : List SeedRow) (l r : StepState) → names_made a ≡ names → names_made b ≡ names
     → l.links ≡ left.links → r.links ≡ left.links → IsSettled (next a) (more b) l r)
     → IsSettled (and_then (make_seeds names) next) (and_then (make_seeds names) more) left right
 settled_seeds [] left right same told next more f = f [] [] left right refl refl refl same
@@ -79,7 +79,7 @@ settled_seeds (name ∷ names) left right same told next more f = (
       (record left { heard = h }) (record right { heard = k }) refl same,
 )
   where
-    after : (a b : SeedRow) (l r : Left)
+    after : (a b : SeedRow) (l r : StepState)
         → IsSettled (and_then (make_seeds names) (λ rows. next (a ∷ rows)))
         (and_then (make_seeds names) (λ rows. more (b ∷ rows))) l r
         → IsSettled (and_then (more_seeds names a) next) (and_then (more_seeds names b) more) l r
@@ -89,11 +89,11 @@ settled_seeds (name ∷ names) left right same told next more f = (
         (subst (λ steps. IsSettled (and_then (make_seeds names) (λ rows. next (a ∷ rows))) steps
         l r) (sym (regroup (make_seeds names) (λ rows. give (b ∷ rows)) more)) s)
 
-    by_breach : ((x y : List ℕ) (u v : Wrapped) (l r : Left) → l.links ≡ left.links
+    by_breach : ((x y : List ℕ) (u v : Wrapped) (l r : StepState) → l.links ≡ left.links
         → r.links ≡ left.links
         → IsSettled (and_then (make_seeds names) (λ rows. next (seed_row name x u ∷ rows)))
         (and_then (make_seeds names) (λ rows. more (seed_row name y v ∷ rows))) l r)
-        → (breach : Option (Field × List ℕ)) (l r : Left) → l.links ≡ left.links
+        → (breach : Option (Field × List ℕ)) (l r : StepState) → l.links ≡ left.links
         → r.links ≡ left.links → IsSettled
         (and_then (and_then (unless_breach name breach (wrap_seed name)) (more_seeds names)) next)
         (and_then (and_then (unless_breach name breach (wrap_seed name)) (more_seeds names)) more)
@@ -104,7 +104,7 @@ settled_seeds (name ∷ names) left right same told next more f = (
         (record (with_dice 0 ry r) { heard = k }) (others x y u v _ _ al ar)
 
 -- what was read is one thing, from which the first steps go on, and then the others
-pub settled_pair : {A B : Type 0} (left right : Left) (a b : Result A Refusal) (f : A → Steps B)
+pub settled_pair : {A B : Type 0} (left right : StepState) (a b : Result A Refusal) (f : A → Steps B)
     (g : B → Steps Outcome) → a ≡ b
     → ((x : A) → IsSettled (and_then (f x) g) (and_then (f x) g) left right)
     → IsSettled (and_then (and_then (by_result a) f) g) (and_then (and_then (by_result b) f) g)

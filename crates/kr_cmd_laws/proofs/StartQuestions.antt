@@ -19,7 +19,7 @@ use Rattle.kr_cmd_messages.specs.declared.refusal.Refusal.{Refusal}
 use Rattle.kr_cmd_steps.proofs.Tapes.{own_name}
 use Rattle.kr_cmd_steps.specs.Phases.{by_result, configuration, with_memory}
 use Rattle.kr_cmd_steps.specs.Plugins.{borrow_links_of, make_seeds, settings_programs}
-use Rattle.kr_cmd_steps.specs.Steps.{Left, Steps, and_then, find, give, load, or_empty, refuse, with_asked, with_tape}
+use Rattle.kr_cmd_steps.specs.Steps.{StepState, Steps, and_then, find, give, load, or_empty, refuse, with_asked, with_tape}
 use Rattle.kr_cmd_steps.specs.StoreFiles.{IsStored, Stored}
 use Rattle.kr_cmd_steps.specs.ValueSteps.{none_kept, value_read}
 use Rattle.kr_cmd_steps.specs.declared.programs.Program.{Program}
@@ -55,8 +55,8 @@ module _ {A B : Type 0} (others : A → Steps B) where
 
   -- what is behind them stands over the same tapes
   loaded_then : (P : Exchange → Type 0) (tapes : List ℕ → Option (Option (List ℕ)))
-      → ((x : A) (l : Left) → l.tapes ≡ tapes → OnlyAsks P (others x) l)
-      → (first : Steps A) (left : Left) → Loads first → left.tapes ≡ tapes
+      → ((x : A) (l : StepState) → l.tapes ≡ tapes → OnlyAsks P (others x) l)
+      → (first : Steps A) (left : StepState) → Loads first → left.tapes ≡ tapes
       → OnlyAsks P (and_then first others) left
   loaded_then P tapes o (load name next) left g same =
       λ bytes. loaded_then P tapes o (next bytes) _ (g bytes) same
@@ -100,13 +100,13 @@ module _ (IsHeld : List ℕ → Type 0) where
   -- ---- the links
 
   links_only : {A : Type 0} (programs : List Program) (seat : ℕ) (next : Steps A)
-      → ((l : Left) → OnlyAsks P next l) → (left : Left)
+      → ((l : StepState) → OnlyAsks P next l) → (left : StepState)
       → OnlyAsks P (borrow_links_of seat programs next) left
   links_only [] seat next o left = o left
   links_only (program ∷ programs) seat next o left = links_only programs seat next o _
 
   equipped_only : {A : Type 0} (programs : List Program) (seats seat : ℕ) (next : Steps A)
-      → ((l : Left) → OnlyAsks P next l) → (left : Left)
+      → ((l : StepState) → OnlyAsks P next l) → (left : StepState)
       → OnlyAsks P (equipping programs seat seats next) left
   equipped_only programs zero seat next o left = o left
   equipped_only programs (suc more) seat next o left =
@@ -116,8 +116,8 @@ module _ (IsHeld : List ℕ → Type 0) where
   -- ---- what the replicas publish
 
   published_by : (files : List NamedRows) (replicas : List (List ℕ × List ℕ)) (made : Replicas)
-      (rows : Option (List ConfigEntry)) (left : Left)
-      → ((more : Replicas) (l : Left) → OnlyAsks P (publishing files more replicas) l)
+      (rows : Option (List ConfigEntry)) (left : StepState)
+      → ((more : Replicas) (l : StepState) → OnlyAsks P (publishing files more replicas) l)
       → OnlyAsks P (publishes rows made (λ more. publishing files more replicas)) left
   published_by files replicas made None left o = o (made ++ None ∷ []) left
   published_by files replicas made (Some rows) left o = λ u v. only_then P
@@ -127,7 +127,7 @@ module _ (IsHeld : List ℕ → Type 0) where
       (make_seeds (plugin_order rows)) left (seeds_only IsHeld (plugin_order rows) left)
 
   published_only : (files : List NamedRows) (replicas : List (List ℕ × List ℕ)) (made : Replicas)
-      (left : Left) → OnlyAsks P (publishing files made replicas) left
+      (left : StepState) → OnlyAsks P (publishing files made replicas) left
   published_only files [] made left = λ u v. tt
   published_only files (replica ∷ replicas) made left =
       published_by files replicas made (rows_of_replica files replica) left
@@ -141,7 +141,7 @@ module _ (IsHeld : List ℕ → Type 0) where
       → Contains listing row → IsHeld row.stored
 
   rows_only : (p : Publication) (rows : List Row) (items : List Item) (kept : CacheState)
-      (left : Left) → ((row : Row) → Contains rows row → IsHeld row.stored)
+      (left : StepState) → ((row : Row) → Contains rows row → IsHeld row.stored)
       → OnlyAsks P (reading_rows p rows items kept) left
   rows_only p [] items kept left held = λ u v. tt
   rows_only p (row ∷ rows) items kept left held = only_then P
@@ -153,14 +153,14 @@ module _ (IsHeld : List ℕ → Type 0) where
       (value_only IsHeld p.seeds (list_of p.rows row.resource) row.path row.stored kept left
       (held row (0, omega arith, refl)))
 
-  live_only : (rows : List LogRow) (replicas : Replicas) (left : Left) → AreHeld rows
+  live_only : (rows : List LogRow) (replicas : Replicas) (left : StepState) → AreHeld rows
       → OnlyAsks P (reading_live rows replicas) left
   live_only rows [] left held = tt
   live_only rows (None ∷ others) left held = tt
   live_only rows (Some p ∷ others) left held =
       λ listing is. rows_only p listing [] none_kept left (held listing is)
 
-  watched_only : (watched : Bool) (rows : List LogRow) (replicas : Replicas) (left : Left)
+  watched_only : (watched : Bool) (rows : List LogRow) (replicas : Replicas) (left : StepState)
       → (watched ≡ true → AreHeld rows) → OnlyAsks P (watching watched rows replicas) left
   watched_only false rows replicas left held = tt
   watched_only true rows replicas left held = live_only rows replicas left (held refl)
@@ -168,13 +168,13 @@ module _ (IsHeld : List ℕ → Type 0) where
   -- ---- up to the workers
 
   started_only : (plan : FleetPlan) (stored : Stored) (budgets : List ℕ) (made : Replicas)
-      (items : List Item) (left : Left)
+      (items : List Item) (left : StepState)
       → OnlyAsks P (starting plan stored budgets made items) left
   started_only plan stored budgets made items left =
       λ r is. results_only P r _ left (λ done. λ u v. tt)
 
   module _ (watched : Bool) where
-    launched_only : (plan : FleetPlan) (stored : Stored) (budgets : List ℕ) (left : Left)
+    launched_only : (plan : FleetPlan) (stored : Stored) (budgets : List ℕ) (left : StepState)
         → (watched ≡ true → AreHeld stored.rows)
         → OnlyAsks P (launching watched plan stored budgets) left
     launched_only plan stored budgets left held = only_then P
@@ -185,7 +185,7 @@ module _ (IsHeld : List ℕ → Type 0) where
         (publishing plan.files [] plan.fleet.replicas) left
         (published_only plan.files plan.fleet.replicas [] left)
 
-    begun_only : (plan : FleetPlan) (stored : Stored) (left : Left)
+    begun_only : (plan : FleetPlan) (stored : Stored) (left : StepState)
         → (watched ≡ true → AreHeld stored.rows)
         → OnlyAsks P (beginning watched plan stored) left
     begun_only plan stored left held = λ r is.
@@ -194,7 +194,7 @@ module _ (IsHeld : List ℕ → Type 0) where
         (launching watched plan stored budgets)
         (λ l. launched_only plan stored budgets l held) left)
 
-    over_only : (store : List ℕ) (plan : FleetPlan) (left : Left)
+    over_only : (store : List ℕ) (plan : FleetPlan) (left : StepState)
         → ((bytes : List ℕ) (stored : Stored) → Agrees (or_empty (left.tapes store)) (Some bytes)
         → IsStored bytes (Ok stored) → watched ≡ true → AreHeld stored.rows)
         → OnlyAsks P (over_store watched store plan) left
@@ -210,7 +210,7 @@ module _ (IsHeld : List ℕ → Type 0) where
         by bytes agrees (Err why) is = tt
 
     -- from what is left on, where each live row of the store is held if someone watches
-    pub fleet_only : (words : FleetWords) (left : Left)
+    pub fleet_only : (words : FleetWords) (left : StepState)
         → ((bytes : List ℕ) (stored : Stored)
         → Agrees (or_empty (left.tapes words.store)) (Some bytes) → IsStored bytes (Ok stored)
         → watched ≡ true → AreHeld stored.rows)

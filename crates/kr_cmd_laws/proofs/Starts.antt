@@ -9,26 +9,26 @@ use Rattle.kr_store.specs.declared.rows.Row.{Row}
 use Rattle.kr_cmd_messages.specs.declared.fleet_words.FleetWords.{FleetWords}
 use Rattle.kr_cmd_messages.specs.declared.refusal.Stop.{Stop}
 use Rattle.kr_cmd_messages.specs.declared.refusal.Stop.TheVariants.{Fault, NoMemory, Refused, Words}
-use Rattle.kr_cmd_steps.specs.Around.{Around, Ends, Reaches, left_of}
+use Rattle.kr_cmd_steps.specs.Environment.{Environment, Ends, StepsEndAt, step_state}
 use Rattle.kr_cmd_steps.specs.Steps.{Point, amid, awaits, gives, hearing, or_empty, refuses}
 use Rattle.kr_cmd_steps.specs.StoreFiles.{IsStored, Stored}
 use Rattle.kr_cmd_fleet.specs.Fleets.{Begun, steps_of_fleet}
-use Rattle.kr_cmd_laws.specs.FleetPlugins.{AllHeard, IsLiveIn, IsReadBy, Listens, StartsAskSeeds, StartsMakeSeeds, StoppedStartsAsk, WatchesAsk}
+use Rattle.kr_cmd_laws.specs.FleetPlugins.{AllHeard, IsLiveValue, IsWatchedValue, Listens, StartsAskSeeds, StartsMakeSeeds, StoppedStartsAsk, WatchesAsk}
 use Rattle.kr_cmd_laws.specs.PluginLaws.{IsQuestion}
 use Rattle.kr_cmd_laws.proofs.OnlyAsks.{only_asked}
 use Rattle.kr_cmd_laws.proofs.StartQuestions.{fleet_only}
 
-module _ (watched : Bool) (words : FleetWords) (old : Around) (listens : Listens old) where
+module _ (watched : Bool) (words : FleetWords) (old : Environment) (listens : Listens old) where
   abbrev Asks : Exchange → Type 0
-  Asks = IsQuestion (IsReadBy watched words.store old)
+  Asks = IsQuestion (IsWatchedValue watched words.store old)
 
   live_held : (bytes : List ℕ) (stored : Stored)
       → Agrees (or_empty (old.world.tapes.told words.store)) (Some bytes)
       → IsStored bytes (Ok stored) → watched ≡ true → (listing : List Row)
       → IsListing stored.rows listing → (row : Row) → Contains listing row
-      → IsReadBy watched words.store old row.stored
+      → IsWatchedValue watched words.store old row.stored
   live_held bytes stored agrees read seen listing are row among =
-      let is : IsLiveIn words.store old row.stored = record {
+      let is : IsLiveValue words.store old row.stored = record {
         bytes = bytes;
         stored = stored;
         live = listing;
@@ -39,15 +39,15 @@ module _ (watched : Bool) (words : FleetWords) (old : Around) (listens : Listens
         among = among;
         is = refl;
       } in
-      subst (λ w. IsReadBy w words.store old row.stored) (sym seen) is
+      subst (λ w. IsWatchedValue w words.store old row.stored) (sym seen) is
 
-  module _ {mid : Around} (point : Point Begun)
-      (r : Reaches (steps_of_fleet watched words) (left_of old) mid point) where
+  module _ {mid : Environment} (point : Point Begun)
+      (r : StepsEndAt (steps_of_fleet watched words) (step_state old) mid point) where
     -- what was heard where they came to
     heard_there : AllHeard Asks mid.heard
     heard_there = subst (AllHeard Asks) (sym r.stays.heard)
-        (only_asked Asks point r.end (steps_of_fleet watched words) (left_of old)
-        (fleet_only (IsReadBy watched words.store old) watched words (left_of old) live_held)
+        (only_asked Asks point r.end (steps_of_fleet watched words) (step_state old)
+        (fleet_only (IsWatchedValue watched words.store old) watched words (step_state old) live_held)
         (subst (AllHeard Asks) (sym listens) (All-nil Asks)) r.goes)
 
     -- it is these exchanges
@@ -58,9 +58,9 @@ module _ (watched : Bool) (words : FleetWords) (old : Around) (listens : Listens
         subst (AllHeard Asks) told heard_there
 
   -- they ended the call
-  asked_ending : (new : Around) (stop : Stop) (exchanges : List Exchange)
+  asked_ending : (new : Environment) (stop : Stop) (exchanges : List Exchange)
       → new.heard ≡ hearing exchanges old.heard
-      → Ends (steps_of_fleet watched words) (left_of old) old new (Err stop) → All Asks exchanges
+      → Ends (steps_of_fleet watched words) (step_state old) old new (Err stop) → All Asks exchanges
   asked_ending new (Words why) exchanges heard e = absurd e
   asked_ending new (Refused why) exchanges heard e = asked_there (refuses why) e exchanges heard
   asked_ending new (Fault object n) exchanges heard (call, e, fault) =

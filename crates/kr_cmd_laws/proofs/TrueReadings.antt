@@ -26,7 +26,7 @@ use Rattle.kr_provider.specs.declared.refusal.ValueNo.{ValueNo}
 use Rattle.kr_provider.proofs.OneReading.{one_reading}
 use Rattle.kr_cmd_steps.specs.ValueSteps.{opening, published_source, reading_given, source_steps, value_read, value_with, fetching, none_kept}
 use Rattle.kr_cmd_steps.specs.Plugins.{make_seed, make_seeds, unless_breach, wrap_seed}
-use Rattle.kr_cmd_steps.specs.Steps.{Goes, Left, Steps, and_then, give, gives, with_heard}
+use Rattle.kr_cmd_steps.specs.Steps.{RunTo, StepState, Steps, and_then, give, gives, with_heard}
 use Rattle.kr_cmd_laws.proofs.Joints.{joint, no_value, one_value}
 use Rattle.kr_kms.specs.declared.seeds.SeedKey.{SeedKey}
 use Rattle.kr_kms.proofs.Fetching.{found_there}
@@ -36,16 +36,16 @@ use Rattle.kr_cmd_laws.proofs.Kept.{AreHeld, answer_held, seed_held, used_held}
 -- ---- the names of seeds that were made
 
 -- the seed of a plugin has its name
-seed_named : (plugin : List ℕ) (row : SeedRow) (end left : Left)
-    → Goes (gives row) end (make_seed plugin) left → row.name ≡ plugin
+seed_named : (plugin : List ℕ) (row : SeedRow) (end left : StepState)
+    → RunTo (gives row) end (make_seed plugin) left → row.name ≡ plugin
 seed_named plugin row end left (inl at) = absurd (no_value at refl)
 seed_named plugin row end left (inr (inl (answer, at))) = absurd (no_value at refl)
 seed_named plugin row end left (inr (inr (inl at))) = absurd (no_value at refl)
 seed_named plugin row end left (inr (inr (inr (status, agrees, goes)))) =
     by_breach (breach_in status) _ goes
   where
-    by_breach : (breach : Option (Field × List ℕ)) (now : Left)
-        → Goes (gives row) end (unless_breach plugin breach (wrap_seed plugin)) now
+    by_breach : (breach : Option (Field × List ℕ)) (now : StepState)
+        → RunTo (gives row) end (unless_breach plugin breach (wrap_seed plugin)) now
         → row.name ≡ plugin
     by_breach (Some breach) now at = absurd (no_value at refl)
     by_breach None now (inl at) = absurd (no_value at refl)
@@ -60,8 +60,8 @@ seed_named plugin row end left (inr (inr (inr (status, agrees, goes)))) =
 abbrev names_of : List SeedRow → List (List ℕ)
 names_of seeds = map (λ row. row.name) seeds
 
-pub seeds_named : (plugins : List (List ℕ)) (seeds : List SeedRow) (end left : Left)
-    → Goes (gives seeds) end (make_seeds plugins) left → map (λ row. row.name) seeds ≡ plugins
+pub seeds_named : (plugins : List (List ℕ)) (seeds : List SeedRow) (end left : StepState)
+    → RunTo (gives seeds) end (make_seeds plugins) left → map (λ row. row.name) seeds ≡ plugins
 seeds_named [] seeds end left at = ap names_of (one_value at)
 seeds_named (plugin ∷ plugins) seeds end left goes =
     let j = joint (λ row. and_then (make_seeds plugins) (λ rows. give (row ∷ rows))) seeds end
@@ -139,30 +139,30 @@ module _ (P : Exchange → Type 0) (seeds : List SeedRow) (list : List Who) (pat
   abbrev behind : CacheState → Result Opened ValueNo → Steps Read
   behind kept given = give (given, kept)
 
-  abbrev again : Left → List Exchange → Left
+  abbrev again : StepState → List Exchange → StepState
   again l heard = record l { heard = Some heard }
 
   -- with this object and source the value reads so; and it would be read so by these steps, from
   -- where nothing is kept, by answers of which this holds too
   pub record Found (steps : Steps Read) (reader : Option Who)
-      (object : Result EncryptedObject ObjectNo) (end left : Left) (later : CacheState)
+      (object : Result EncryptedObject ObjectNo) (end left : StepState) (later : CacheState)
       : Type 0 where
     pub held : AreHeld Answered later
     pub own : List Exchange
     pub all : All P own
     pub after : CacheState
-    pub goes : (l : Left) (h : List Exchange)
-        → Goes (gives (read, after)) (again l (h ++ own)) steps (again l h)
+    pub goes : (l : StepState) (h : List Exchange)
+        → RunTo (gives (read, after)) (again l (h ++ own)) steps (again l h)
     pub source : Option (List ℕ)
     pub has : (opens : Opens) → Agreed opens → OpenAll opens seeds
         → HasEnvelope opens reader bytes (envelope object source)
     pub is_read : IsReadAs (value_reading (envelope object source) list path bytes) read
 
   -- what a reading gives leaves all as it is, whatever is kept
-  abbrev Given : Reading → Bool → (kept later : CacheState) → (end now : Left) → Type 0
+  abbrev Given : Reading → Bool → (kept later : CacheState) → (end now : StepState) → Type 0
   Given reading stale kept later end now = (later ≡ kept) × (end ≡ now)
-      × ((k : CacheState) (l : Left)
-      → Goes (gives (read, k)) l (and_then (reading_given reading stale) (behind k)) l)
+      × ((k : CacheState) (l : StepState)
+      → RunTo (gives (read, k)) l (and_then (reading_given reading stale) (behind k)) l)
       × IsReadAs reading read
 
   given_by : (given : Result Opened ValueNo) (kept later : CacheState)
@@ -170,8 +170,8 @@ module _ (P : Exchange → Type 0) (seeds : List SeedRow) (list : List Who) (pat
   given_by given kept later e =
       (ap (λ (x : Read). x.1) e, ap (λ (x : Read). x.0) e)
 
-  given_so : (reading : Reading) (stale : Bool) (kept later : CacheState) (end now : Left)
-      → Goes (gives (read, later)) end (and_then (reading_given reading stale) (behind kept)) now
+  given_so : (reading : Reading) (stale : Bool) (kept later : CacheState) (end now : StepState)
+      → RunTo (gives (read, later)) end (and_then (reading_given reading stale) (behind kept)) now
       → Given reading stale kept later end now
   given_so (data_of plain) stale kept later end now at =
       let is = given_by (Ok (record { plain = plain; stale = stale })) kept later (one_value at) in (
@@ -198,8 +198,8 @@ module _ (P : Exchange → Type 0) (seeds : List SeedRow) (list : List Who) (pat
     HasSource source = (opens : Opens) → Agreed opens → OpenAll opens seeds
         → HasEnvelope opens reader bytes (envelope object source)
 
-    given : (source : Option (List ℕ)) (kept later : CacheState) (end now : Left)
-        → Goes (gives (read, later)) end (next source kept) now
+    given : (source : Option (List ℕ)) (kept later : CacheState) (end now : StepState)
+        → RunTo (gives (read, later)) end (next source kept) now
         → Given (value_reading (envelope object source) list path bytes)
         (is_stale (envelope object source) seeds list bytes) kept later end now
     given source = given_so (value_reading (envelope object source) list path bytes)
@@ -207,8 +207,8 @@ module _ (P : Exchange → Type 0) (seeds : List SeedRow) (list : List Who) (pat
 
     -- no plugin is asked
     unasked : (source : Option (List ℕ)) → HasSource source → (kept later : CacheState)
-        (end left : Left) → AreHeld Answered kept
-        → Goes (gives (read, later)) end (next source kept) left
+        (end left : StepState) → AreHeld Answered kept
+        → RunTo (gives (read, later)) end (next source kept) left
         → Found (next source none_kept) reader object end left later
     unasked source has kept later end left held goes =
         let g = given source kept later end left goes in record {
@@ -216,7 +216,7 @@ module _ (P : Exchange → Type 0) (seeds : List SeedRow) (list : List Who) (pat
           own = [];
           all = All-nil P;
           after = none_kept;
-          goes = λ l h. subst (λ es. Goes (gives (read, none_kept)) (again l es)
+          goes = λ l h. subst (λ es. RunTo (gives (read, none_kept)) (again l es)
               (next source none_kept) (again l h)) (sym (append-nil h))
               (g.2 none_kept (again l h));
           source = source;
@@ -225,17 +225,17 @@ module _ (P : Exchange → Type 0) (seeds : List SeedRow) (list : List Who) (pat
         }
 
     module _ (key : SeedKey) (has : (source : List ℕ) → Answered key source
-        → HasSource (Some source)) (kept later : CacheState) (end left : Left)
+        → HasSource (Some source)) (kept later : CacheState) (end left : StepState)
         (held : AreHeld Answered kept) where
       abbrev Again : Type 0
       Again = Found (source_steps None none_kept key next) reader object end left later
 
       -- the plugin unwraps the source, from where nothing is kept
-      asked : (seed : List ℕ) → ((l : Left) → Goes (gives (read, none_kept)) l
-          (next (Some seed) none_kept) l) → (l : Left) (h : List Exchange)
-          → Goes (gives (read, none_kept)) (again l (h ++ UnwrapCall key (Ok seed) ∷ []))
+      asked : (seed : List ℕ) → ((l : StepState) → RunTo (gives (read, none_kept)) l
+          (next (Some seed) none_kept) l) → (l : StepState) (h : List Exchange)
+          → RunTo (gives (read, none_kept)) (again l (h ++ UnwrapCall key (Ok seed) ∷ []))
           (source_steps None none_kept key next) (again l h)
-      asked seed goes l h = subst (λ (x : Option (List ℕ)). Goes (gives (read, none_kept))
+      asked seed goes l h = subst (λ (x : Option (List ℕ)). RunTo (gives (read, none_kept))
           (again l (h ++ UnwrapCall key (Ok seed) ∷ [])) (fetching x none_kept key next)
           (again l h)) (sym (none_there key)) (inr (inr (inr (
             seed,
@@ -243,7 +243,7 @@ module _ (P : Exchange → Type 0) (seeds : List SeedRow) (list : List Who) (pat
           ))))
 
       by_kept : AllTold P end.heard → (x : Option (List ℕ)) → seed_at kept.rows key ≡ x
-          → Goes (gives (read, later)) end (fetching x kept key next) left → Again
+          → RunTo (gives (read, later)) end (fetching x kept key next) left → Again
       by_kept told (Some seed) is goes =
           let g = given (Some seed) (with_used kept key) later end left goes in
           let so = seed_held Answered kept key seed is held in record {
@@ -264,7 +264,7 @@ module _ (P : Exchange → Type 0) (seeds : List SeedRow) (list : List Who) (pat
           let x = UnwrapCall key (Ok seed) in
           let g = given (Some seed) after later end (with_heard x left) goes in
           let so = (earlier P x left.heard
-          (subst (λ (l : Left). AllTold P l.heard) g.1 told)).1 in record {
+          (subst (λ (l : StepState). AllTold P l.heard) g.1 told)).1 in record {
             held = subst (AreHeld Answered) (sym g.0)
                 (answer_held Answered kept after key seed is keeps so held);
             own = x ∷ [];
@@ -279,7 +279,7 @@ module _ (P : Exchange → Type 0) (seeds : List SeedRow) (list : List Who) (pat
       -- it was published, or isn't
       by_known : AllTold P end.heard → (known : Option (List ℕ))
           → ((seed : List ℕ) → known ≡ Some seed → HasSource (Some seed))
-          → Goes (gives (read, later)) end (source_steps known kept key next) left
+          → RunTo (gives (read, later)) end (source_steps known kept key next) left
           → Found (source_steps known none_kept key next) reader object end left later
       by_known told (Some seed) known goes =
           let f = unasked (Some seed) (known seed refl) kept later end left held goes in record {
@@ -326,9 +326,9 @@ module _ (P : Exchange → Type 0) (seeds : List SeedRow) (list : List Who) (pat
         (λ opens all. seed_opens opens name seeds row all is) seed e
 
   opening_found : (reader : Option Who) (object : Result EncryptedObject ObjectNo)
-      → HasObject reader bytes object → (kept later : CacheState) (end left : Left)
+      → HasObject reader bytes object → (kept later : CacheState) (end left : StepState)
       → AreHeld Answered kept → AllTold P end.heard
-      → Goes (gives (read, later)) end
+      → RunTo (gives (read, later)) end
       (opening seeds reader object kept (value_with seeds list path bytes object)) left
       → Found (opening seeds reader object none_kept (value_with seeds list path bytes object))
       reader object end left later
@@ -354,19 +354,19 @@ module _ (P : Exchange → Type 0) (seeds : List SeedRow) (list : List Who) (pat
 
   -- ---- all of it
 
-  pub record ReadsAgain (end left : Left) (later : CacheState) : Type 0 where
+  pub record ReadsAgain (end left : StepState) (later : CacheState) : Type 0 where
     pub held : AreHeld Answered later
     pub own : List Exchange
     pub all : All P own
     pub after : CacheState
-    pub goes : (l : Left) (h : List Exchange) → Goes (gives (read, after)) (again l (h ++ own))
+    pub goes : (l : StepState) (h : List Exchange) → RunTo (gives (read, after)) (again l (h ++ own))
         (value_read seeds list path bytes none_kept) (again l h)
     pub truly : (opens : Opens) → Agreed opens → OpenAll opens seeds
         → IsTrueReading opens list path bytes read
 
-  pub value_again : (kept later : CacheState) (end left : Left) → AreHeld Answered kept
+  pub value_again : (kept later : CacheState) (end left : StepState) → AreHeld Answered kept
       → AllTold P end.heard
-      → Goes (gives (read, later)) end (value_read seeds list path bytes kept) left
+      → RunTo (gives (read, later)) end (value_read seeds list path bytes kept) left
       → ReadsAgain end left later
   value_again kept later end left held told (inl at) = absurd (no_value at refl)
   value_again kept later end left held told (inr (object, has, goes)) =

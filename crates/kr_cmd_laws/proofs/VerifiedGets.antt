@@ -22,7 +22,7 @@ use Rattle.kr_cmd_messages.specs.declared.command.Verification.{Verification}
 use Rattle.kr_cmd_messages.specs.declared.refusal.Outcome.{Outcome}
 use Rattle.kr_cmd_messages.specs.declared.refusal.Refusal.{Refusal}
 use Rattle.kr_cmd_messages.specs.declared.refusal.Refusal.TheVariants.{Value}
-use Rattle.kr_cmd_steps.specs.Around.{Around, left_of}
+use Rattle.kr_cmd_steps.specs.Environment.{Environment, step_state}
 use Rattle.kr_cmd_steps.specs.ValueSteps.{bench_steps, data_steps, freshness, value_read, working, working_by, none_kept}
 use Rattle.kr_cmd_steps.specs.Phases.{by_result, configuration, linking_programs, with_memory, read_for}
 use Rattle.kr_cmd_steps.specs.Commands.{getting, steps, verifying}
@@ -31,12 +31,12 @@ use Rattle.kr_base.specs.Told.{Agrees}
 use Rattle.kr_cmd_steps.specs.Configuration.{IsConfiguration}
 use Rattle.kr_cmd_steps.specs.Plugins.{borrow_links, make_seeds, settings_programs}
 use Rattle.kr_cmd_steps.specs.RowFindings.{finding_of, findings_outcome}
-use Rattle.kr_cmd_steps.specs.Steps.{Goes, Left, Point, Steps, and_then, give, gives, refuses, with_asked, with_tape, give_back}
+use Rattle.kr_cmd_steps.specs.Steps.{RunTo, StepState, Point, Steps, and_then, give, gives, refuses, with_asked, with_tape, give_back}
 use Rattle.kr_cmd_steps.specs.StoreFiles.{Stored}
 use Rattle.kr_cmd_steps.specs.declared.finding.Finding.{Finding}
 use Rattle.kr_cmd_steps.specs.declared.programs.Program.{Program}
 use Rattle.kr_cmd_steps.proofs.Ends.{value_end}
-use Rattle.kr_cmd_steps.proofs.Goes.{further}
+use Rattle.kr_cmd_steps.proofs.RunTo.{further}
 use Rattle.kr_cmd_laws.specs.VerifyLaws.{AreLive, InPairs, IsGot, VerifiedRuns, lookup_as, VerifyTellsGets, listening}
 use Rattle.kr_cmd_laws.proofs.TrueReadings.{IsTrueReading, value_again}
 use Rattle.kr_cmd_laws.proofs.Joints.{joint, no_value, one_value}
@@ -52,8 +52,8 @@ abbrev pub said_of : Result Opened ValueNo → Point Outcome
 said_of (Ok opened) = gives (record { bytes = opened.plain; done = freshness opened.stale })
 said_of (Err why) = refuses (Value why)
 
-says : (read : Result Opened ValueNo) (left : Left)
-    → Goes (said_of read) left (data_steps read) left
+says : (read : Result Opened ValueNo) (left : StepState)
+    → RunTo (said_of read) left (data_steps read) left
 says (Ok opened) left = (refl, refl)
 says (Err why) left = (refl, refl)
 
@@ -86,16 +86,16 @@ module _ {A B : Type 0} {P Q : A → B → Type 0} where
 -- ---- the files of a command
 
 -- the configuration was read
-pub record IsConfigured (words : Verification) (old : Around) (rows : List ConfigEntry) (first : Left)
+pub record IsConfigured (words : Verification) (old : Environment) (rows : List ConfigEntry) (first : StepState)
     : Type 0 where
   pub file : Option (List ℕ)
   pub told : Agrees (old.world.file words.config) file
   pub means : IsConfiguration words.config file (Ok rows)
   pub tapes : first.tapes ≡ old.world.tapes.told
 
-module _ (words : Verification) (old : Around) where
-  pub configured : (rows : List ConfigEntry) (first : Left)
-      → Goes (gives rows) first (configuration words.config) (left_of (listening old))
+module _ (words : Verification) (old : Environment) where
+  pub configured : (rows : List ConfigEntry) (first : StepState)
+      → RunTo (gives rows) first (configuration words.config) (step_state (listening old))
       → IsConfigured words old rows first
   configured rows first (inl at) = absurd (no_value at refl)
   configured rows first (inr (inl at)) = absurd (no_value at refl)
@@ -106,18 +106,18 @@ module _ (words : Verification) (old : Around) where
     file = file;
     told = agrees;
     means = subst (λ r. IsConfiguration words.config file (Ok r)) (sym (one_value at)) is;
-    tapes = ap (λ (l : Left). l.tapes) at.1;
+    tapes = ap (λ (l : StepState). l.tapes) at.1;
   }
 
-  pub linked : (rows : List ConfigEntry) (programs : List Program) (first second : Left)
-      → Goes (gives programs) second (linking_programs words.options rows) first
+  pub linked : (rows : List ConfigEntry) (programs : List Program) (first second : StepState)
+      → RunTo (gives programs) second (linking_programs words.options rows) first
       → second ≡ first
   linked rows programs first second (inl at) = absurd (no_value at refl)
   linked rows programs first second (inr (u, v, goes)) =
       by_cases (settings_programs words.options (plugin_order rows)) goes
     where
       by_cases : (r : Result (List Program) Refusal)
-          → Goes (gives programs) second (by_result r) first → second ≡ first
+          → RunTo (gives programs) second (by_result r) first → second ≡ first
       by_cases (Ok found) at = at.1
       by_cases (Err why) at = absurd (no_value at refl)
 
@@ -136,20 +136,20 @@ module _ (P : Exchange → Type 0) where
   -- the row's value reads so, truly by any openings with which plugins agree, and these steps would
   -- come to what `get` says of that
   pub record Comes (rows : List ConfigEntry) (steps : stored.Row → Steps Outcome)
-      (left : Left) (row : stored.Row) (finding : Finding) : Type 0 where
+      (left : StepState) (row : stored.Row) (finding : Finding) : Type 0 where
     pub read : Result Opened ValueNo
     pub is : finding ≡ finding_of read
     pub truly : (opens : Opens) → Agreed opens
         → IsTrueReading opens (list_of rows row.resource) row.path row.stored read
-    pub other : Left
+    pub other : StepState
     pub told : AllTold P other.heard
-    pub goes : Goes (said_of read) other (steps row) left
+    pub goes : RunTo (said_of read) other (steps row) left
 
   -- by steps that do what these do
   moved : {rows : List ConfigEntry} {steps others : stored.Row → Steps Outcome}
-      {left mid : Left} {row : stored.Row} {finding : Finding}
-      → ((point : Point Outcome) (end : Left) → Goes point end (steps row) left
-      → Goes point end (others row) mid)
+      {left mid : StepState} {row : stored.Row} {finding : Finding}
+      → ((point : Point Outcome) (end : StepState) → RunTo point end (steps row) left
+      → RunTo point end (others row) mid)
       → Comes rows steps left row finding → Comes rows others mid row finding
   moved f c = record {
     read = c.read;
@@ -169,8 +169,8 @@ module _ (P : Exchange → Type 0) where
     pub own : List Exchange
     pub all : All P own
     pub after : CacheState
-    pub goes : (l : Left) (h : List Exchange)
-        → Goes (gives (read, after)) (record l { heard = Some (h ++ own) })
+    pub goes : (l : StepState) (h : List Exchange)
+        → RunTo (gives (read, after)) (record l { heard = Some (h ++ own) })
         (value_read p.seeds (list_of p.rows row.resource) row.path row.stored none_kept)
         (record l { heard = Some h })
     pub truly : (opens : Opens) → Agreed opens → OpenAll opens p.seeds
@@ -186,15 +186,15 @@ module _ (P : Exchange → Type 0) where
 
     -- the row's reading
     row_read : (row : stored.Row) (finding : Finding) (kept later : CacheState)
-        (end left : Left) → Held kept → AllTold P end.heard
-        → Goes (gives (finding, later)) end (row_finding p row kept) left
+        (end left : StepState) → Held kept → AllTold P end.heard
+        → RunTo (gives (finding, later)) end (row_finding p row kept) left
         → IsRead p row finding × Held later
     row_read row finding kept later end left held told goes =
         let j = joint next (finding, later) end (value_of row kept) left goes in
         let same : ◌≡◌ {A = Finding × CacheState} (finding, later) (finding_of j.0.0, j.0.1) =
         one_value j.3 in
         let v = value_again P p.seeds (list_of p.rows row.resource) row.path row.stored j.0.0 kept
-        j.0.1 j.1 left held (subst (λ (l : Left). AllTold P l.heard) j.3.1 told) j.2 in (
+        j.0.1 j.1 left held (subst (λ (l : StepState). AllTold P l.heard) j.3.1 told) j.2 in (
           record {
             read = j.0.0;
             is = ap (λ (x : Finding × CacheState). x.0) same;
@@ -218,13 +218,13 @@ module _ (P : Exchange → Type 0) where
 
     -- one row, and the others
     behind : (row : stored.Row) (live : List stored.Row) (findings : List Finding)
-        (kept : CacheState) (end left : Left) → Held kept → AllTold P end.heard
-        → ((kept : CacheState) (more : List Finding) (last mid : Left) → Held kept
-        → AllTold P last.heard → Goes (gives more) last (row_findings p live kept) mid
+        (kept : CacheState) (end left : StepState) → Held kept → AllTold P end.heard
+        → ((kept : CacheState) (more : List Finding) (last mid : StepState) → Held kept
+        → AllTold P last.heard → RunTo (gives more) last (row_findings p live kept) mid
         → AreRead live more)
-        → (found : Finding × CacheState) × (mid : Left)
-        × Goes (gives found) mid (row_finding p row kept) left
-        × Goes (gives findings) end (others live found) mid
+        → (found : Finding × CacheState) × (mid : StepState)
+        × RunTo (gives found) mid (row_finding p row kept) left
+        × RunTo (gives findings) end (others live found) mid
         → AreRead (row ∷ live) findings
     behind row live findings kept end left held told onward (found, mid, first, inl at) =
         absurd (no_value at refl)
@@ -232,15 +232,15 @@ module _ (P : Exchange → Type 0) where
         (found, mid, first, inr (u, v, goes)) =
         let k = joint (put_before found.0) findings end (row_findings p live found.1) mid goes in
         let late : AllTold P k.1.heard =
-        subst (λ (l : Left). AllTold P l.heard) k.3.1 told in
+        subst (λ (l : StepState). AllTold P l.heard) k.3.1 told in
         let r = row_read row found.0 kept found.1 mid left held
         (told_before P (gives k.0) k.1 late (row_findings p live found.1) mid k.2) first in
         subst (AreRead (row ∷ live)) (sym (one_value k.3))
         (r.0, onward found.1 k.0 k.1 mid r.1 late k.2)
 
     pub rows_read : (live : List stored.Row) (findings : List Finding) (kept : CacheState)
-        (end left : Left) → Held kept → AllTold P end.heard
-        → Goes (gives findings) end (row_findings p live kept) left → AreRead live findings
+        (end left : StepState) → Held kept → AllTold P end.heard
+        → RunTo (gives findings) end (row_findings p live kept) left → AreRead live findings
     rows_read [] findings kept end left held told at =
         subst (AreRead []) (sym (one_value at)) tt
     rows_read (row ∷ live) findings kept end left held told goes =
@@ -252,12 +252,12 @@ module _ (P : Exchange → Type 0) where
 
   -- what was found, told; and `get` of each row would come to that
   pub record Finds (rows : List ConfigEntry) (made : Outcome) (live : List stored.Row)
-      (steps : stored.Row → Steps Outcome) (left : Left) : Type 0 where
+      (steps : stored.Row → Steps Outcome) (left : StepState) : Type 0 where
     pub findings : List Finding
     pub made_is : made ≡ findings_outcome live findings
     pub comes : InPairs (Comes rows steps left) live findings
 
-  module _ (made : Outcome) (end : Left) (told : AllTold P end.heard) (rows : List ConfigEntry)
+  module _ (made : Outcome) (end : StepState) (told : AllTold P end.heard) (rows : List ConfigEntry)
       (live : List stored.Row) where
     abbrev read_row : stored.Row → Steps Outcome
     read_row row = working Decrypt row.resource row.path rows row.stored
@@ -265,19 +265,19 @@ module _ (P : Exchange → Type 0) where
     abbrev p_of : List SeedRow → Publication
     p_of seeds = record { rows = rows; seeds = seeds }
 
-    told_so : (findings : List Finding) (left : Left)
-        → Goes (gives made) end (telling_findings live findings) left
+    told_so : (findings : List Finding) (left : StepState)
+        → RunTo (gives made) end (telling_findings live findings) left
         → (made ≡ findings_outcome live findings) × (end ≡ left)
     told_so findings left (inl at) = absurd (no_value at refl)
     told_so findings left (inr (u, v, at)) = (one_value at, at.1)
 
     -- a row is read behind the same seeds
-    read_so : (seeds : List SeedRow) (mid left : Left) (t : AllTold P mid.heard)
-        → Goes (gives seeds) mid (make_seeds (plugin_order rows)) left
+    read_so : (seeds : List SeedRow) (mid left : StepState) (t : AllTold P mid.heard)
+        → RunTo (gives seeds) mid (make_seeds (plugin_order rows)) left
         → (row : stored.Row) (finding : Finding) → IsRead (p_of seeds) row finding
         → Comes rows read_row left row finding
     read_so seeds mid left t first row finding r =
-        let other : Left = record mid { heard = Some (t.0 ++ r.own) } in
+        let other : StepState = record mid { heard = Some (t.0 ++ r.own) } in
         let list = list_of rows row.resource in record {
           read = r.read;
           is = r.is;
@@ -293,14 +293,14 @@ module _ (P : Exchange → Type 0) where
                 (further (said_of r.read) other (λ read. data_steps read.0)
                 (gives (r.read, r.after)) other (says r.read other)
                 (value_read seeds list row.path row.stored none_kept) mid
-                (subst (λ (l : Left). Goes (gives (r.read, r.after)) other
+                (subst (λ (l : StepState). RunTo (gives (r.read, r.after)) other
                 (value_read seeds list row.path row.stored none_kept) l)
                 (λ i. record mid { heard = sym t.1 i }) (r.goes mid t.0)))
                 (make_seeds (plugin_order rows)) left first,
           );
         }
 
-    pub with_seeds : (left : Left) → Goes (gives made) end (verifying_by rows live) left
+    pub with_seeds : (left : StepState) → RunTo (gives made) end (verifying_by rows live) left
         → Finds rows made live read_row left
     with_seeds left (inl at) = absurd (no_value at refl)
     with_seeds left (inr (u, v, goes)) =
@@ -310,7 +310,7 @@ module _ (P : Exchange → Type 0) where
         j.1 j.3 in
         let said = told_so k.0 k.1 k.3 in
         let late : AllTold P k.1.heard =
-        subst (λ (l : Left). AllTold P l.heard) said.1 told in
+        subst (λ (l : StepState). AllTold P l.heard) said.1 told in
         let t = told_before P (gives k.0) k.1 late (row_findings (p_of j.0) live none_kept) j.1
         k.2 in record {
           findings = k.0;
@@ -320,8 +320,8 @@ module _ (P : Exchange → Type 0) where
               k.2);
         }
 
-    pub with_links : (programs : List Program) (left : Left)
-        → Goes (gives made) end (borrow_links programs (verifying_by rows live)) left
+    pub with_links : (programs : List Program) (left : StepState)
+        → RunTo (gives made) end (borrow_links programs (verifying_by rows live)) left
         → Finds rows made live (λ row. borrow_links programs (read_row row)) left
     with_links [] left goes = with_seeds left goes
     with_links (program ∷ programs) left (inl at) = absurd (no_value at refl)
@@ -334,8 +334,8 @@ module _ (P : Exchange → Type 0) where
               f.comes;
         }
 
-    pub with_dice : (programs : List Program) (left : Left)
-        → Goes (gives made) end (verifying_with programs rows live) left
+    pub with_dice : (programs : List Program) (left : StepState)
+        → RunTo (gives made) end (verifying_with programs rows live) left
         → Finds rows made live
         (λ row. bench_steps programs Decrypt row.resource row.path rows row.stored) left
     with_dice programs left (inl at) = absurd (no_value at refl)
@@ -349,7 +349,7 @@ module _ (P : Exchange → Type 0) where
         }
 
   -- the configuration and the live rows, what each of them reads as, and what `get` of it comes to
-  pub record Found (words : Verification) (old : Around) (made : Outcome) : Type 0 where
+  pub record Found (words : Verification) (old : Environment) (made : Outcome) : Type 0 where
     pub file : Option (List ℕ)
     pub rows : List ConfigEntry
     pub live : List stored.Row
@@ -359,10 +359,10 @@ module _ (P : Exchange → Type 0) where
     pub are_live : AreLive words old live
     pub made_is : made ≡ findings_outcome live findings
     pub comes : InPairs
-        (Comes rows (λ row. getting (lookup_as words row.path)) (left_of (listening old)))
+        (Comes rows (λ row. getting (lookup_as words row.path)) (step_state (listening old)))
         live findings
 
-  module _ (words : Verification) (old : Around) (made : Outcome) (end : Left)
+  module _ (words : Verification) (old : Environment) (made : Outcome) (end : StepState)
       (told : AllTold P end.heard) where
     abbrev read_at : List ConfigEntry → List Program → List ℕ → stored.Row → Steps Outcome
     read_at rows programs path row =
@@ -383,26 +383,26 @@ module _ (P : Exchange → Type 0) where
     abbrev IsThere : Stored → stored.Row → Type 0
     IsThere store row = live store.rows row.path ≡ Some row
 
-    module _ (rows : List ConfigEntry) (programs : List Program) (first second : Left)
+    module _ (rows : List ConfigEntry) (programs : List Program) (first second : StepState)
         (read_is : IsConfigured words old rows first) (same : second ≡ first)
-        (is_read : Goes (gives rows) first (configuration words.config) (left_of (listening old)))
-        (is_linked : Goes (gives programs) second (linking_programs words.options rows) first) where
+        (is_read : RunTo (gives rows) first (configuration words.config) (step_state (listening old)))
+        (is_linked : RunTo (gives programs) second (linking_programs words.options rows) first) where
       -- `get` of a path comes to what comes of its row
-      got_from : (path : List ℕ) (point : Point Outcome) (other : Left)
-          → Goes point other (looked_up rows programs path) second
-          → Goes point other (getting (lookup_as words path)) (left_of (listening old))
+      got_from : (path : List ℕ) (point : Point Outcome) (other : StepState)
+          → RunTo point other (looked_up rows programs path) second
+          → RunTo point other (getting (lookup_as words path)) (step_state (listening old))
       got_from path point other goes = further point other (λ rows. loaded rows path) (gives rows)
           first
           (further point other (λ programs. looked_up rows programs path) (gives programs)
           second goes (linking_programs words.options rows) first
           is_linked)
-          (configuration words.config) (left_of (listening old))
+          (configuration words.config) (step_state (listening old))
           is_read
 
-      abbrev lent : Left
+      abbrev lent : StepState
       lent = with_tape false words.store (with_asked (Tape words.store ToRead) second)
 
-      by_tape : Goes (gives made) end (listed rows programs) second → Found words old made
+      by_tape : RunTo (gives made) end (listed rows programs) second → Found words old made
       by_tape (inl at) = absurd (no_value at refl)
       by_tape (inr (inl at)) = absurd (no_value at refl)
       by_tape (inr (inr (inl (never, agrees, at)))) = absurd (no_value at refl)
@@ -427,7 +427,7 @@ module _ (P : Exchange → Type 0) where
               store = store;
               held = subst (λ (tapes : List ℕ → Option (Option (List ℕ))).
                   Agrees (tapes words.store) (Some bytes))
-                  (ap (λ (l : Left). l.tapes) same ∙ read_is.tapes) agrees;
+                  (ap (λ (l : StepState). l.tapes) same ∙ read_is.tapes) agrees;
               read = is;
               listing = are;
             };
@@ -444,7 +444,7 @@ module _ (P : Exchange → Type 0) where
                       inr (
                         tt,
                         tt,
-                        subst (λ found. Goes point other (and_then (and_then
+                        subst (λ found. RunTo point other (and_then (and_then
                             (by_result (row_found row.path found))
                             (λ made. give_back words.store (give made)))
                             (read_at rows programs row.path)) lent) (sym there) g,
@@ -454,28 +454,28 @@ module _ (P : Exchange → Type 0) where
                 ))))) c) listing f.findings are.are_live f.comes;
           }
 
-    more : (rows : List ConfigEntry) (first : Left)
-        → Goes (gives rows) first (configuration words.config) (left_of (listening old))
-        → (programs : List Program) × (second : Left)
-        × Goes (gives programs) second (linking_programs words.options rows) first
-        × Goes (gives made) end (listed rows programs) second
+    more : (rows : List ConfigEntry) (first : StepState)
+        → RunTo (gives rows) first (configuration words.config) (step_state (listening old))
+        → (programs : List Program) × (second : StepState)
+        × RunTo (gives programs) second (linking_programs words.options rows) first
+        × RunTo (gives made) end (listed rows programs) second
         → Found words old made
     more rows first is_read (programs, second, is_linked, goes) = by_tape rows programs first second
         (configured words old rows first is_read)
         (linked words old rows programs first second is_linked) is_read is_linked goes
 
-    so : (rows : List ConfigEntry) × (first : Left)
-        × Goes (gives rows) first (configuration words.config) (left_of (listening old))
-        × Goes (gives made) end (and_then (linking_programs words.options rows)
+    so : (rows : List ConfigEntry) × (first : StepState)
+        × RunTo (gives rows) first (configuration words.config) (step_state (listening old))
+        × RunTo (gives made) end (and_then (linking_programs words.options rows)
         (λ programs. listed rows programs)) first
         → Found words old made
     so (rows, first, is_read, goes) = more rows first is_read
         (joint (λ programs. listed rows programs) made end (linking_programs words.options rows)
         first goes)
 
-    pub found : Goes (gives made) end (verifying words) (left_of (listening old)) → Found words old made
+    pub found : RunTo (gives made) end (verifying words) (step_state (listening old)) → Found words old made
     found goes = so (joint (λ rows. and_then (linking_programs words.options rows)
-        (λ programs. listed rows programs)) made end (configuration words.config) (left_of (listening old)) goes)
+        (λ programs. listed rows programs)) made end (configuration words.config) (step_state (listening old)) goes)
 
 -- each of them is one of them
 each_known : (all es : List Exchange) → ((e : Exchange) → Contains es e → Contains all e)
@@ -509,7 +509,7 @@ verified_run words asked old new exchanges output errors status asks
       made,
       verified asked old exchanges made (record {
         end = r.end;
-        goes = subst (λ c. Goes (gives made) r.end (steps c) (left_of (listening old))) is r.goes;
+        goes = subst (λ c. RunTo (gives made) r.end (steps c) (step_state (listening old))) is r.goes;
         heard = sym r.stays.heard;
       }),
       status_is,

@@ -47,14 +47,14 @@ use Rattle.kr_cmd_messages.specs.declared.refusal.Outcome.{Outcome}
 use Rattle.kr_cmd_messages.specs.declared.refusal.Refusal.{Refusal}
 use Rattle.kr_cmd_messages.specs.declared.refusal.Refusal.TheVariants.{Limit}
 use Rattle.kr_cmd_messages.specs.declared.report.RewriteCounts.{RewriteCounts}
-use Rattle.kr_cmd_steps.specs.Around.{Around, left_of}
+use Rattle.kr_cmd_steps.specs.Environment.{Environment, step_state}
 use Rattle.kr_cmd_steps.specs.RewriteSteps.{Progress, driving, nothing_done, one_rewritten, replacing, resealing, rewriting_by, rewriting_live, rewriting_on, row_anew, row_by, row_data, row_steps, starting, within_journal}
 use Rattle.kr_cmd_steps.specs.Phases.{by_result, configuration, linking_programs, settled_for}
 use Rattle.kr_cmd_steps.specs.Commands.{getting, rewriting}
 use Rattle.kr_cmd_steps.specs.Configuration.{IsConfiguration}
 use Rattle.kr_cmd_steps.specs.Plugins.{borrow_links, make_seeds}
 use Rattle.kr_cmd_steps.specs.RowFindings.{finding_of, is_refused}
-use Rattle.kr_cmd_steps.specs.Steps.{Goes, Left, Steps, amid, and_then, awaits, borrow_dice, give, gives, refuses, settle, with_asked, with_tape, write_row}
+use Rattle.kr_cmd_steps.specs.Steps.{RunTo, StepState, Steps, amid, and_then, awaits, borrow_dice, give, gives, refuses, settle, with_asked, with_tape, write_row}
 use Rattle.kr_cmd_steps.specs.StoreFiles.{IsStored, Stored, with_row}
 use Rattle.kr_cmd_steps.specs.declared.finding.Finding.{Finding}
 use Rattle.kr_cmd_steps.specs.declared.programs.Program.{Program}
@@ -88,8 +88,8 @@ is_sealed seeds w path plain drawn has may =
     (sym (within plain may.0)) (sealed_some seeds w path plain drawn has may)
 
 drawn_some : (size : ℕ) (sealed : List ℕ → Option (List ℕ)) (value : Option (List ℕ))
-    (end left : Left) → ((drawn : List ℕ) → IsSome (sealed drawn))
-    → Goes (gives value) end (draw_some size (λ d. give (sealed d))) left → IsSome value
+    (end left : StepState) → ((drawn : List ℕ) → IsSome (sealed drawn))
+    → RunTo (gives value) end (draw_some size (λ d. give (sealed d))) left → IsSome value
 drawn_some zero sealed value end left each at =
     subst (λ o. IsSome o) (sym (one_value at)) (each [])
 drawn_some (suc more) sealed value end left each (inl at) = absurd (no_value at refl)
@@ -97,8 +97,8 @@ drawn_some (suc more) sealed value end left each (inr (bytes, rest, c, fits, at)
     subst (λ o. IsSome o) (sym (one_value at)) (each bytes)
 
 value_some : (seeds : List SeedRow) (w : Who) (path plain : List ℕ) (value : Option (List ℕ))
-    (end left : Left) → HasSeed seeds w → IsSealable w plain
-    → Goes (gives value) end (value_sealed seeds w path plain) left → IsSome value
+    (end left : StepState) → HasSeed seeds w → IsSealable w plain
+    → RunTo (gives value) end (value_sealed seeds w path plain) left → IsSome value
 value_some seeds w path plain value end left has may (inl at) = absurd (no_value at refl)
 value_some seeds w path plain value end left has may (inr (u, v, goes)) =
     drawn_some (draw_size w) (sealed_by seeds w path plain) value end left
@@ -129,15 +129,15 @@ module _ (opens : Opens) (name : List ℕ) (p : Publication)
     (open_all : OpenAll opens p.seeds)
     (seeded : (resource : List ℕ) → HasSeed p.seeds (writer_of (list_of p.rows resource)))
   where
-    module _ (row : stored.Row) (at : Progress) (done : Progress) (end : Left) where
+    module _ (row : stored.Row) (at : Progress) (done : Progress) (end : StepState) where
       abbrev Leaves : Type 0
       Leaves = done.counts.left ≡ at.counts.left
 
       abbrev New : List ℕ → LogRow
       New value = row_anew at.store.format p row value
 
-      added : (value : List ℕ) (large : Bool) (left : Left)
-          → Goes (gives done) end (and_then (and_then
+      added : (value : List ℕ) (large : Bool) (left : StepState)
+          → RunTo (gives done) end (and_then (and_then
           (by_result
           (if large then Err (Limit limit.Store) else Ok (with_row (New value) at.store)))
           (λ grown. write_row Store name at.store (New value) (give grown)))
@@ -147,53 +147,53 @@ module _ (opens : Opens) (name : List ℕ) (p : Publication)
       added value false left (inr (told, holds, e)) =
           ap (λ (x : Progress). x.counts.left) (one_value e)
 
-      replaced : (value : Option (List ℕ)) (left : Left) → IsSome value
-          → Goes (gives done) end (replacing name p row at value) left → Leaves
+      replaced : (value : Option (List ℕ)) (left : StepState) → IsSome value
+          → RunTo (gives done) end (replacing name p row at value) left → Leaves
       replaced None left some goes = absurd cc
       replaced (Some value) left some (inl e) = absurd (no_value e refl)
       replaced (Some value) left some (inr (u, v, goes)) = added value (nat_lt store_limit
           (length (file_bytes at.store.format (at.store.rows ++ New value ∷ [])))) left goes
 
-      resealed : (plain : List ℕ) (left : Left)
+      resealed : (plain : List ℕ) (left : StepState)
           → IsSealable (writer_of (list_of p.rows row.resource)) plain → (long : Bool)
           → nat_lt data_limit (length plain) ≡ long
-          → Goes (gives done) end (resealing long name p row plain at) left → Leaves
+          → RunTo (gives done) end (resealing long name p row plain at) left → Leaves
       resealed plain left may true is goes =
           absurd (let e : true ≡ false = sym is ∙ within plain may.0 in cc)
       resealed plain left may false is goes = so (joint (replacing name p row at) done end
           (value_sealed p.seeds (writer_of (list_of p.rows row.resource)) row.path plain) left goes)
         where
-          so : (value : Option (List ℕ)) × (mid : Left) × Goes (gives value) mid
+          so : (value : Option (List ℕ)) × (mid : StepState) × RunTo (gives value) mid
               (value_sealed p.seeds (writer_of (list_of p.rows row.resource)) row.path plain) left
-              × Goes (gives done) end (replacing name p row at value) mid → Leaves
+              × RunTo (gives done) end (replacing name p row at value) mid → Leaves
           so (value, mid, sealed, goes) = replaced value mid (value_some p.seeds
               (writer_of (list_of p.rows row.resource)) row.path plain value mid left
               (seeded row.resource) may sealed) goes
 
-      by_data : (plain : List ℕ) (stale : Bool) (left : Left)
+      by_data : (plain : List ℕ) (stale : Bool) (left : StepState)
           → IsSealable (writer_of (list_of p.rows row.resource)) plain
-          → Goes (gives done) end (row_data name p row at plain stale) left → Leaves
+          → RunTo (gives done) end (row_data name p row at plain stale) left → Leaves
       by_data plain false left may e = ap (λ (x : Progress). x.counts.left) (one_value e)
       by_data plain true left may (inl e) = absurd (no_value e refl)
       by_data plain true left may (inr (u, v, goes)) =
           resealed plain left may (nat_lt data_limit (length plain)) refl goes
 
-      by_again : (read : Result Opened ValueNo) (left : Left) (again : Opened) → read ≡ Ok again
+      by_again : (read : Result Opened ValueNo) (left : StepState) (again : Opened) → read ≡ Ok again
           → IsSealable (writer_of (list_of p.rows row.resource)) again.plain
-          → Goes (gives done) end (row_by name p row at read) left → Leaves
+          → RunTo (gives done) end (row_by name p row at read) left → Leaves
       by_again read left again is may goes = by_data again.plain again.stale left may
-          (subst (λ r. Goes (gives done) end (row_by name p row at r) left) is goes)
+          (subst (λ r. RunTo (gives done) end (row_by name p row at r) left) is goes)
 
     -- what plugins answered agrees
-    abbrev Told : Left → Type 0
+    abbrev Told : StepState → Type 0
     Told left = AllTold (AgreesWith opens) left.heard
 
     abbrev Held : CacheState → Type 0
     Held kept = AreHeld (λ key seed. AgreesWith opens (UnwrapCall key (Ok seed))) kept
 
     row_leaves : (row : stored.Row) (at : Progress) (done : Progress × CacheState)
-        (end left : Left) (kept : CacheState) → Held kept → Told end → IsKept opens p row
-        → Goes (gives done) end (row_steps name p row kept at) left
+        (end left : StepState) (kept : CacheState) → Held kept → Told end → IsKept opens p row
+        → RunTo (gives done) end (row_steps name p row kept at) left
         → (done.0.counts.left ≡ at.counts.left) × Held done.1
     row_leaves row at done end left kept held told k goes =
         let behind : Result Opened ValueNo × CacheState → Steps (Progress × CacheState) =
@@ -202,7 +202,7 @@ module _ (opens : Opens) (name : List ℕ) (p : Publication)
         let j = joint behind done end value left goes in
         let i = joint (λ d. give (d, j.0.1)) done end (row_by name p row at j.0.0) j.1 j.3 in
         let same : done ≡ (i.0, j.0.1) = one_value i.3 in
-        let late : Told i.1 = subst (λ (l : Left). Told l) i.3.1 told in
+        let late : Told i.1 = subst (λ (l : StepState). Told l) i.3.1 told in
         let before : Told j.1 = told_before (AgreesWith opens) (gives i.0) i.1 late
         (row_by name p row at j.0.0) j.1 i.2 in
         let v = value_again (AgreesWith opens) p.seeds (list_of p.rows row.resource) row.path
@@ -223,14 +223,14 @@ module _ (opens : Opens) (name : List ℕ) (p : Publication)
         (counts : RewriteCounts) × (made ≡ report_outcome counts) × (counts.left ≡ before)
 
     row_behind : (row : stored.Row) (live : List stored.Row) (kept : CacheState) (at : Progress)
-        (made : Outcome) (end : Left) → Held kept → Told end
-        → ((after : CacheState) (done : Progress) (next : Left) → Held after
-        → Goes (gives made) end (driving name p live after done) next
+        (made : Outcome) (end : StepState) → Held kept → Told end
+        → ((after : CacheState) (done : Progress) (next : StepState) → Held after
+        → RunTo (gives made) end (driving name p live after done) next
         → IsReported made done.counts.left)
-        → IsKept opens p row → (mid : Left)
-        → (done : Progress × CacheState) × (next : Left)
-        × Goes (gives done) next (row_steps name p row kept at) mid
-        × Goes (gives made) end (driving name p live done.1 done.0) next
+        → IsKept opens p row → (mid : StepState)
+        → (done : Progress × CacheState) × (next : StepState)
+        × RunTo (gives done) next (row_steps name p row kept at) mid
+        × RunTo (gives made) end (driving name p live done.1 done.0) next
         → IsReported made at.counts.left
     row_behind row live kept at made end held told onward is mid (done, next, first, goes) =
         let l = row_leaves row at done next mid kept held (told_before (AgreesWith opens)
@@ -238,8 +238,8 @@ module _ (opens : Opens) (name : List ℕ) (p : Publication)
         let r = onward done.1 done.0 next l.1 goes in (r.0, r.1, r.2 ∙ l.0)
 
     pub drive_leaves : (live : List stored.Row) → All (IsKept opens p) live
-        → (kept : CacheState) (at : Progress) (made : Outcome) (end left : Left) → Held kept
-        → Told end → Goes (gives made) end (driving name p live kept at) left
+        → (kept : CacheState) (at : Progress) (made : Outcome) (end left : StepState) → Held kept
+        → Told end → RunTo (gives made) end (driving name p live kept at) left
         → IsReported made at.counts.left
     drive_leaves [] all kept at made end left held told (u, holds, inl e) =
         absurd (no_value e refl)
@@ -290,7 +290,7 @@ none_first finding findings none = by_test (is_refused finding)
     by_test true e = absurd (omega (arith, e))
     by_test false e = (refl, omega (arith, e))
 
-module _ (opens : Opens) (words : Verification) (old : Around) (made : Outcome)
+module _ (opens : Opens) (words : Verification) (old : Environment) (made : Outcome)
     (f : Found (AgreesWith opens) words old made) (sealable : AreSealable opens words old)
     (seeds : List SeedRow) where
   abbrev published : Publication
@@ -301,7 +301,7 @@ module _ (opens : Opens) (words : Verification) (old : Around) (made : Outcome)
 
   abbrev Come : stored.Row → Finding → Type 0
   Come row finding = Comes (AgreesWith opens) f.rows
-      (λ row. getting (lookup_as words row.path)) (left_of (listening old)) row finding
+      (λ row. getting (lookup_as words row.path)) (step_state (listening old)) row finding
 
   kept_row : (row : stored.Row) (finding : Finding) → Contains f.live row
       → (c : Come row finding) → (read : Result Opened ValueNo) → c.read ≡ read
@@ -319,8 +319,8 @@ module _ (opens : Opens) (words : Verification) (old : Around) (made : Outcome)
           all_agree opens c.told.0 c.told.2,
           record {
             end = c.other;
-            goes = subst (λ r. Goes (said_of r) c.other (getting (lookup_as words row.path))
-                (left_of (listening old))) is c.goes;
+            goes = subst (λ r. RunTo (said_of r) c.other (getting (lookup_as words row.path))
+                (step_state (listening old))) is c.goes;
             heard = c.told.1;
           },
         );
@@ -339,13 +339,13 @@ module _ (opens : Opens) (words : Verification) (old : Around) (made : Outcome)
 
 -- ---- from the beginning
 
-module _ (opens : Opens) (words : Verification) (old : Around) (made : Outcome)
+module _ (opens : Opens) (words : Verification) (old : Environment) (made : Outcome)
     (f : Found (AgreesWith opens) words old made)
     (file_told : IsSome (old.world.file words.config))
     (tape_told : IsSome (old.world.tapes.told words.store))
     (sealable : AreSealable opens words old)
     (silent : made.done ≡ Silent) where
-  module _ (done : Outcome) (end : Left) (told : AllTold (AgreesWith opens) end.heard) where
+  module _ (done : Outcome) (end : StepState) (told : AllTold (AgreesWith opens) end.heard) where
     abbrev IsNoneLeft : Type 0
     IsNoneLeft = (counts : RewriteCounts) × (done ≡ report_outcome counts) × (counts.left ≡ 0)
 
@@ -359,9 +359,9 @@ module _ (opens : Opens) (words : Verification) (old : Around) (made : Outcome)
           driving words.store (record { rows = f.rows; seeds = seeds }) f.live none_kept
           (nothing_done base))
 
-      at_start : (seeds : List SeedRow) (mid : Left)
+      at_start : (seeds : List SeedRow) (mid : StepState)
           → map (λ row. row.name) seeds ≡ plugin_order f.rows → OpenAll opens seeds
-          → Goes (gives done) end (behind_seeds seeds) mid → IsNoneLeft
+          → RunTo (gives done) end (behind_seeds seeds) mid → IsNoneLeft
       at_start seeds mid names all (inl e) = absurd (no_value e refl)
       at_start seeds mid names all (inr (Err why, none, e)) = absurd (no_value e refl)
       at_start seeds mid names all (inr (Ok u, may, goes)) = drive_leaves opens words.store
@@ -372,8 +372,8 @@ module _ (opens : Opens) (words : Verification) (old : Around) (made : Outcome)
           f.comes) none_kept (nothing_done base) done end mid
           (none_held (λ key seed. AgreesWith opens (UnwrapCall key (Ok seed)))) told goes
 
-      at_seeds : (left : Left)
-          → Goes (gives done) end (rewriting_by words.store f.rows base f.live) left → IsNoneLeft
+      at_seeds : (left : StepState)
+          → RunTo (gives done) end (rewriting_by words.store f.rows base f.live) left → IsNoneLeft
       at_seeds left (inl e) = absurd (no_value e refl)
       at_seeds left (inr (u, v, goes)) =
           let j = joint behind_seeds done end (make_seeds (plugin_order f.rows)) left goes in
@@ -381,8 +381,8 @@ module _ (opens : Opens) (words : Verification) (old : Around) (made : Outcome)
           (seeds_open (AgreesWith opens) opens (λ e agrees. agrees) (plugin_order f.rows) j.0 j.1
           left (told_before (AgreesWith opens) (gives done) end told (behind_seeds j.0) j.1 j.3) j.2) j.3
 
-      at_links : (links : List Program) (left : Left)
-          → Goes (gives done) end (borrow_links links (rewriting_by words.store f.rows base f.live))
+      at_links : (links : List Program) (left : StepState)
+          → RunTo (gives done) end (borrow_links links (rewriting_by words.store f.rows base f.live))
           left
           → IsNoneLeft
       at_links [] left goes = at_seeds left goes
@@ -390,8 +390,8 @@ module _ (opens : Opens) (words : Verification) (old : Around) (made : Outcome)
       at_links (program ∷ links) left (inr (inl e)) = absurd (no_value e refl)
       at_links (program ∷ links) left (inr (inr goes)) = at_links links _ goes
 
-      at_room : (room : Result ⊤ Refusal) (left : Left)
-          → Goes (gives done) end (and_then (by_result room) (λ u.
+      at_room : (room : Result ⊤ Refusal) (left : StepState)
+          → RunTo (gives done) end (and_then (by_result room) (λ u.
           borrow_dice 0 (borrow_links programs (rewriting_by words.store f.rows base f.live)))) left
           → IsNoneLeft
       at_room (Err why) left e = absurd (no_value e refl)
@@ -413,8 +413,8 @@ module _ (opens : Opens) (words : Verification) (old : Around) (made : Outcome)
         listing_once l.store.rows listing f.live
         (subst (λ (s : Stored). IsListing s.rows listing) base_is are) l.listing
 
-    on_tape : (programs : List Program) (lent : Left) → lent.tapes ≡ old.world.tapes.told
-        → Goes (gives done) end (rewriting_on words.store f.rows programs) lent → IsNoneLeft
+    on_tape : (programs : List Program) (lent : StepState) → lent.tapes ≡ old.world.tapes.told
+        → RunTo (gives done) end (rewriting_on words.store f.rows programs) lent → IsNoneLeft
     on_tape programs lent tapes (inl e) = absurd (no_value e refl)
     on_tape programs lent tapes (inr (bytes, agrees, inl e)) = absurd (no_value e refl)
     on_tape programs lent tapes (inr (bytes, agrees, inr (Err why, is, e))) =
@@ -424,36 +424,36 @@ module _ (opens : Opens) (words : Verification) (old : Around) (made : Outcome)
     on_tape programs lent tapes
         (inr (bytes, agrees, inr (Ok base, is, inr (listing, are, goes)))) =
         at_room programs base (within_journal f.live) lent
-        (subst (λ l. Goes (gives done) end (rewriting_live words.store f.rows programs base l) lent)
+        (subst (λ l. RunTo (gives done) end (rewriting_live words.store f.rows programs base l) lent)
         (same_rows bytes base listing
         (subst (λ (t : List ℕ → Option (Option (List ℕ))). Agrees (t words.store) (Some bytes))
         tapes agrees) is are) goes)
 
-  module _ (done : Outcome) (end : Left) (told : AllTold (AgreesWith opens) end.heard) where
+  module _ (done : Outcome) (end : StepState) (told : AllTold (AgreesWith opens) end.heard) where
     abbrev LeftNone : Outcome → Type 0
     LeftNone x = (counts : RewriteCounts) × (x ≡ report_outcome counts) × (counts.left ≡ 0)
 
     -- the tape is settled behind it
-    settled_so : (programs : List Program) (lent : Left) → lent.tapes ≡ old.world.tapes.told
-        → (x : Outcome) × (mid : Left)
-        × Goes (gives x) mid (rewriting_on words.store f.rows programs) lent
-        × Goes (gives done) end (settle Store words.store (give x)) mid
+    settled_so : (programs : List Program) (lent : StepState) → lent.tapes ≡ old.world.tapes.told
+        → (x : Outcome) × (mid : StepState)
+        × RunTo (gives x) mid (rewriting_on words.store f.rows programs) lent
+        × RunTo (gives done) end (settle Store words.store (give x)) mid
         → LeftNone done
     settled_so programs lent tapes (x, mid, goes, inl e) = absurd (no_value e refl)
     settled_so programs lent tapes (x, mid, goes, inr e) = subst LeftNone (sym (one_value e))
         (on_tape x mid
-        (subst (λ (l : Left). AllTold (AgreesWith opens) l.heard) e.1 told) programs
+        (subst (λ (l : StepState). AllTold (AgreesWith opens) l.heard) e.1 told) programs
         lent tapes goes)
 
-    at_tape : (programs : List Program) (mid : Left) → mid.tapes ≡ old.world.tapes.told
-        → Goes (gives done) end
+    at_tape : (programs : List Program) (mid : StepState) → mid.tapes ≡ old.world.tapes.told
+        → RunTo (gives done) end
         (settled_for Store words.store ToWrite (rewriting_on words.store f.rows programs)) mid
         → LeftNone done
     at_tape programs mid tapes (inl e) = absurd (no_value e refl)
     at_tape programs mid tapes (inr (inl e)) = absurd (no_value e refl)
     at_tape programs mid tapes (inr (inr (inl (never, agrees, e)))) = absurd (no_value e refl)
     at_tape programs mid tapes (inr (inr (inr (may, goes)))) =
-        let lent : Left = with_tape false words.store (with_asked (Tape words.store ToWrite) mid) in
+        let lent : StepState = with_tape false words.store (with_asked (Tape words.store ToWrite) mid) in
         settled_so programs lent tapes
         (joint (λ x. settle Store words.store (give x)) done end
         (rewriting_on words.store f.rows programs) lent goes)
@@ -462,10 +462,10 @@ module _ (opens : Opens) (words : Verification) (old : Around) (made : Outcome)
     behind_files rows programs =
         settled_for Store words.store ToWrite (rewriting_on words.store rows programs)
 
-    with_programs : (rows : List ConfigEntry) (first : Left) → IsConfigured words old rows first
-        → (programs : List Program) × (second : Left)
-        × Goes (gives programs) second (linking_programs words.options rows) first
-        × Goes (gives done) end (behind_files rows programs) second
+    with_programs : (rows : List ConfigEntry) (first : StepState) → IsConfigured words old rows first
+        → (programs : List Program) × (second : StepState)
+        × RunTo (gives programs) second (linking_programs words.options rows) first
+        × RunTo (gives done) end (behind_files rows programs) second
         → LeftNone done
     with_programs rows first read (programs, second, is_linked, goes) =
         let file_is : f.file ≡ read.file = one_file (old.world.file words.config) read.file f.file
@@ -475,22 +475,22 @@ module _ (opens : Opens) (words : Verification) (old : Around) (made : Outcome)
         let rows_are : rows ≡ f.rows = cc in
         let same : second ≡ first = linked words old rows programs first second is_linked in
         at_tape programs second
-        (ap (λ (l : Left). l.tapes) same ∙ read.tapes)
-        (subst (λ r. Goes (gives done) end (behind_files r programs) second) rows_are goes)
+        (ap (λ (l : StepState). l.tapes) same ∙ read.tapes)
+        (subst (λ r. RunTo (gives done) end (behind_files r programs) second) rows_are goes)
 
-    with_rows : (rows : List ConfigEntry) × (first : Left)
-        × Goes (gives rows) first (configuration words.config) (left_of (listening old))
-        × Goes (gives done) end (and_then (linking_programs words.options rows) (behind_files rows))
+    with_rows : (rows : List ConfigEntry) × (first : StepState)
+        × RunTo (gives rows) first (configuration words.config) (step_state (listening old))
+        × RunTo (gives done) end (and_then (linking_programs words.options rows) (behind_files rows))
         first
         → LeftNone done
     with_rows (rows, first, is_read, goes) = with_programs rows first
         (configured words old rows first is_read)
         (joint (behind_files rows) done end (linking_programs words.options rows) first goes)
 
-    pub leaves_none : Goes (gives done) end (rewriting (rewriting_as words))
-        (left_of (listening old)) → LeftNone done
+    pub leaves_none : RunTo (gives done) end (rewriting (rewriting_as words))
+        (step_state (listening old)) → LeftNone done
     leaves_none goes = with_rows (joint (λ rows. and_then (linking_programs words.options rows)
-        (behind_files rows)) done end (configuration words.config) (left_of (listening old)) goes)
+        (behind_files rows)) done end (configuration words.config) (step_state (listening old)) goes)
 
 pub none_left : RewriteLeavesNone
 none_left words old made (gives done) opens file tape sealable (es, all, verify) silent

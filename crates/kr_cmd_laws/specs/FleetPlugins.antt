@@ -11,14 +11,14 @@ use Rattle.kr_workers.specs.declared.ending.Ending.{Ending}
 use Rattle.kr_cmd_messages.specs.Receipts.{Receipt}
 use Rattle.kr_cmd_messages.specs.declared.fleet_words.FleetWords.{FleetWords}
 use Rattle.kr_cmd_messages.specs.declared.refusal.Stop.{Stop}
-use Rattle.kr_cmd_steps.specs.Around.{Around, Reaches, left_of}
+use Rattle.kr_cmd_steps.specs.Environment.{Environment, StepsEndAt, step_state}
 use Rattle.kr_cmd_steps.specs.Steps.{Point, hearing, or_empty}
 use Rattle.kr_cmd_steps.specs.StoreFiles.{IsStored, Stored}
 use Rattle.kr_cmd_fleet.specs.Fleets.{Begun, Starts, StopsBefore, steps_of_fleet, watch_steps}
 use Rattle.kr_cmd_laws.specs.PluginLaws.{IsQuestion}
 
 -- where no plugin was asked before, and what they are asked is told
-abbrev pub Listens : Around → Type 0
+abbrev pub Listens : Environment → Type 0
 Listens old = old.heard ≡ Some []
 
 -- what was heard is told, and each exchange of it is such
@@ -29,7 +29,7 @@ AllHeard P (Some heard) = All P heard
 -- ---- which values may be asked by
 
 -- the value is a live row's in the store of this name, which is made empty where it is absent
-pub record IsLiveIn (store : List ℕ) (old : Around) (value : List ℕ) : Type 0 where
+pub record IsLiveValue (store : List ℕ) (old : Environment) (value : List ℕ) : Type 0 where
   pub bytes : List ℕ
   pub stored : Stored
   pub live : List Row
@@ -41,9 +41,9 @@ pub record IsLiveIn (store : List ℕ) (old : Around) (value : List ℕ) : Type 
   pub is : value ≡ row.stored
 
 -- a watch asks by those, a fleet by none
-abbrev pub IsReadBy : (watched : Bool) → (store : List ℕ) → Around → List ℕ → Type 0
-IsReadBy false store old = λ value. ⊥
-IsReadBy true store old = IsLiveIn store old
+abbrev pub IsWatchedValue : (watched : Bool) → (store : List ℕ) → Environment → List ℕ → Type 0
+IsWatchedValue false store old = λ value. ⊥
+IsWatchedValue true store old = IsLiveValue store old
 
 -- ---- a watch
 
@@ -51,11 +51,11 @@ IsReadBy true store old = IsLiveIn store old
 -- to wrap 32 bytes, or to unwrap the source in a live row. Where it starts its workers they came to
 -- what these begin with: `reaches` and `heard` of `StartsWatch` (kr_cmd_watch)
 abbrev pub WatchesAsk : Type 0
-WatchesAsk = (words : FleetWords) (old mid : Around) (point : Point Begun)
+WatchesAsk = (words : FleetWords) (old mid : Environment) (point : Point Begun)
     (exchanges : List Exchange) → Listens old
-    → Reaches (watch_steps words) (left_of old) mid point
+    → StepsEndAt (watch_steps words) (step_state old) mid point
     → mid.heard ≡ hearing exchanges old.heard
-    → All (IsQuestion (IsLiveIn words.store old)) exchanges
+    → All (IsQuestion (IsLiveValue words.store old)) exchanges
 
 -- ---- a fleet
 
@@ -65,7 +65,7 @@ module _ (T : Type 0) {L D : Type 0} (link : L → Link)
   -- whatever the workers' links were asked before they had them is a question for the status, or to
   -- wrap 32 bytes
   abbrev pub StartsAskSeeds : Type 0
-  StartsAskSeeds = (words : FleetWords) (old new : Around) (output : Receipt)
+  StartsAskSeeds = (words : FleetWords) (old new : Environment) (output : Receipt)
       (result : Result Ending Stop) → Listens old
       → (s : Starts T link step lent took left count words old new output result)
       → All (IsQuestion (λ value. ⊥)) s.exchanges
@@ -73,21 +73,21 @@ module _ (T : Type 0) {L D : Type 0} (link : L → Link)
   -- each seed of each replica that is in was wrapped by its plugin, with the key that the plugin
   -- answered: it opens by all openings that agree with what these links answered
   abbrev pub StartsMakeSeeds : Type 0
-  StartsMakeSeeds = (words : FleetWords) (old new : Around) (output : Receipt)
+  StartsMakeSeeds = (words : FleetWords) (old new : Environment) (output : Receipt)
       (result : Result Ending Stop)
       (s : Starts T link step lent took left count words old new output result)
       (opens : Opens) → AgreeAll opens s.exchanges
       → All (λ replica. IfSome replica (SeedsOpen opens)) s.begun.replicas
 
--- ---- one of these that ends before its workers
+-- ---- one of these that ends before it writes anything
 
 module _ (T : Type 0) {L D : Type 0} (link : L → Link) (step : L → Exchange → L → Type 0)
     (left : D → Option (List ℕ)) (count : D → ℕ) where
-  -- whatever the links of a fleet, or of a watch, that has no result were asked up to its workers
-  -- is such a question
+  -- whatever the links of a fleet, or of a watch, that ends so were asked up to its workers is such
+  -- a question
   abbrev pub StoppedStartsAsk : Type 0
-  StoppedStartsAsk = (watched : Bool) (words : FleetWords) (old new : Around) (output : Receipt)
-      (result : Result Ending Stop) (exchanges : List Exchange) → Listens old
+  StoppedStartsAsk = (watched : Bool) (words : FleetWords) (old new : Environment)
+      (output : Receipt) (result : Result Ending Stop) (exchanges : List Exchange) → Listens old
       → new.heard ≡ hearing exchanges old.heard
       → StopsBefore T link step left count (steps_of_fleet watched words) words.store old new output
-      result → All (IsQuestion (IsReadBy watched words.store old)) exchanges
+      result → All (IsQuestion (IsWatchedValue watched words.store old)) exchanges

@@ -15,7 +15,7 @@ use Rattle.kr_cmd_messages.specs.declared.command.Direction.TheVariants.{Decrypt
 use Rattle.kr_cmd_messages.specs.declared.command.Lookup.{Lookup}
 use Rattle.kr_cmd_messages.specs.declared.command.Rewriting.{Rewriting}
 use Rattle.kr_cmd_messages.specs.declared.command.Verification.{Verification}
-use Rattle.kr_cmd_steps.specs.Around.{Around}
+use Rattle.kr_cmd_steps.specs.Environment.{Environment}
 use Rattle.kr_cmd_steps.specs.Ran.{Ran}
 use Rattle.kr_cmd_steps.specs.StoreFiles.{IsStored, Stored}
 use Rattle.kr_cmd_laws.specs.VerifyLaws.{AreLive}
@@ -29,12 +29,12 @@ IsQuestion IsHeld (UnwrapCall key answer) = (value name : List ℕ) × (object :
     × IsHeld value × IsObjectOf name value (Ok object) × (key ≡ seed_key name object)
 
 -- the value is the input's
-abbrev pub IsInput : Direction → Around → List ℕ → Type 0
+abbrev pub IsInput : Direction → Environment → List ℕ → Type 0
 IsInput Encrypt old value = ⊥
 IsInput Decrypt old value = Agrees old.input value
 
 -- it is the path's in the store
-pub record IsRowOf (words : Lookup) (old : Around) (value : List ℕ) : Type 0 where
+pub record IsStoredValue (words : Lookup) (old : Environment) (value : List ℕ) : Type 0 where
   pub bytes : List ℕ
   pub store : Stored
   pub row : stored.Row
@@ -44,7 +44,7 @@ pub record IsRowOf (words : Lookup) (old : Around) (value : List ℕ) : Type 0 w
   pub is : value ≡ row.stored
 
 -- it is a live row's
-pub record IsLiveOf (words : Verification) (old : Around) (value : List ℕ) : Type 0 where
+pub record IsLiveOf (words : Verification) (old : Environment) (value : List ℕ) : Type 0 where
   pub live : List stored.Row
   pub row : stored.Row
   pub are : AreLive words old live
@@ -60,17 +60,17 @@ verified_as words = record {
 }
 
 -- what a command asks a plugin; the others ask nothing
-abbrev pub Sees : Command → Around → Exchange → Type 0
+abbrev pub Sees : Command → Environment → Exchange → Type 0
 Sees (Convert words) old exchange = IsQuestion (IsInput words.direction old) exchange
 Sees (Put words store) old exchange = IsQuestion (λ value. ⊥) exchange
-Sees (Get words) old exchange = IsQuestion (IsRowOf words old) exchange
+Sees (Get words) old exchange = IsQuestion (IsStoredValue words old) exchange
 Sees (Verify words) old exchange = IsQuestion (IsLiveOf words old) exchange
 Sees (Rewrite words) old exchange = IsQuestion (IsLiveOf (verified_as words) old) exchange
 Sees command old exchange = ⊥
 
 -- of a command that was done with these exchanges
 abbrev pub PluginsSee : Type 0
-PluginsSee = (words : List (List ℕ)) (old new : Around) (exchanges : List Exchange)
+PluginsSee = (words : List (List ℕ)) (old new : Environment) (exchanges : List Exchange)
     (output errors : Receipt) (status : ℕ) → Ran words (record old { heard = Some [] })
     (record new { heard = Some exchanges }) output errors status
     → (command : Command) → Asks words command → All (Sees command old) exchanges

@@ -16,7 +16,7 @@ use Rattle.kr_cmd_messages.specs.declared.refusal.Done.{Done}
 use Rattle.kr_cmd_messages.specs.declared.refusal.Outcome.{Outcome}
 use Rattle.kr_cmd_messages.specs.declared.refusal.Stop.{Stop}
 use Rattle.kr_cmd_messages.specs.declared.refusal.Stop.TheVariants.{Words}
-use Rattle.kr_cmd_steps.specs.Around.{Around, faults_at, left_of}
+use Rattle.kr_cmd_steps.specs.Environment.{Environment, faults_at, step_state}
 use Rattle.kr_cmd_steps.specs.Commands.{steps}
 use Rattle.kr_cmd_steps.specs.Ran.{Comes, GivesWith, IsUntouched, Ran, RefusesWith, end_at}
 use Rattle.kr_cmd_steps.specs.Steps.{Call, Point, awaits}
@@ -25,7 +25,7 @@ use Rattle.kr_cmd_steps.specs.StoreFiles.{Stored}
 -- ---- what is told
 
 -- all files and tapes, the input, and the random source of seat 0: no command draws at another
-pub record TellsAll (old : Around) : Type 0 where
+pub record TellsAll (old : Environment) : Type 0 where
   pub file : (name : List ℕ) → IsSome (old.world.file name)
   pub tapes : (name : List ℕ) → IsSome (old.world.tapes.told name)
   pub input : IsSome old.input
@@ -33,15 +33,15 @@ pub record TellsAll (old : Around) : Type 0 where
 
 -- so there are calls that are told all that they touch
 abbrev pub AllIsTold : Type 0
-AllIsTold = (command : Command) (old : Around) (exchanges : List Exchange) → TellsAll old
-    → IsTold (Some exchanges) (steps command) (left_of old)
+AllIsTold = (command : Command) (old : Environment) (exchanges : List Exchange) → TellsAll old
+    → IsTold (Some exchanges) (steps command) (step_state old)
 
 -- what the first tells, the second tells
 abbrev pub TellsToo : {T : Type 0} → (first second : Option T) → Type 0
 TellsToo first second = IfSome first (λ x. second ≡ Some x)
 
 -- of files, tapes, the input and the random sources
-pub record IsToldToo (first second : Around) : Type 0 where
+pub record IsToldToo (first second : Environment) : Type 0 where
   pub file : (name : List ℕ) → TellsToo (first.world.file name) (second.world.file name)
   pub tapes : (name : List ℕ)
       → TellsToo (first.world.tapes.told name) (second.world.tapes.told name)
@@ -52,8 +52,8 @@ pub record IsToldToo (first second : Around) : Type 0 where
 
 -- what was around it before and behind it, what it wrote, and its status
 pub record Execution : Type 0 where
-  pub old : Around
-  pub new : Around
+  pub old : Environment
+  pub new : Environment
   pub output : Receipt
   pub errors : Receipt
   pub status : ℕ
@@ -103,7 +103,7 @@ pub record HasOneResult (x y : Execution) : Type 0 where
 abbrev pub OneResult : Type 0
 OneResult = (words : List (List ℕ)) (exchanges : Option (List Exchange)) (command : Command)
     (x y : Execution) → Asks words command → AnswersOnce exchanges
-    → IsTold exchanges (steps command) (left_of x.old) → IsToldToo x.old y.old
+    → IsTold exchanges (steps command) (step_state x.old) → IsToldToo x.old y.old
     → WentWell words exchanges x → WentWell words exchanges y → HasOneResult x y
 
 -- ---- each call ends as its steps do
@@ -128,7 +128,7 @@ EndsAsItsSteps words x =
 abbrev pub IsDecidedBySteps : List (List ℕ) → Option (List Exchange) → Execution → Type 0
 IsDecidedBySteps words exchanges x = (command : Command) (point : Point Outcome)
     (end : Result Done Stop) → Asks words command → AnswersOnce exchanges
-    → IsTold exchanges (steps command) (left_of x.old)
+    → IsTold exchanges (steps command) (step_state x.old)
     → MayEnd exchanges command x.old point → end_at point ≡ Some end
     → (x.status ≡ status_of end) × Appends x.errors.old x.errors.new (line_of end)
 

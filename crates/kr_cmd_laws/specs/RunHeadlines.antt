@@ -32,7 +32,7 @@ use Rattle.kr_cmd_messages.specs.declared.fleet_words.FleetWords.{FleetWords}
 use Rattle.kr_cmd_messages.specs.declared.refusal.Object.TheVariants.{Output}
 use Rattle.kr_cmd_messages.specs.declared.refusal.Stop.{Stop}
 use Rattle.kr_cmd_messages.specs.declared.refusal.Stop.TheVariants.{Fault, NoMemory}
-use Rattle.kr_cmd_steps.specs.Around.{Around, IsHome, Reaches, left_of}
+use Rattle.kr_cmd_steps.specs.Environment.{Environment, IsHome, StepsEndAt, step_state}
 use Rattle.kr_cmd_steps.specs.Ran.{WroteNothing}
 use Rattle.kr_cmd_steps.specs.Steps.{Steps, gives, hearing}
 use Rattle.kr_cmd_fleet.specs.FleetFiles.{named_rows}
@@ -52,8 +52,8 @@ revision_behind rows history path = option_map (λ (it : Object). it.revision)
 -- and all. A row lives at a path exactly where something stands there after the history, and has
 -- its revision: so the next call begins with what this one ends with. The store's count of faults
 -- is that of the last step
-pub record LeavesStore (store : List ℕ) (begun : Begun) (mid new : Around) (history : List Entry)
-    : Type 0 where
+pub record LeavesStore (store : List ℕ) (begun : Begun) (mid new : Environment)
+    (history : List Entry) : Type 0 where
   pub rows : List LogRow
   pub rows_are : rows ≡ (state_of (opening_of store begun mid) history).rows
   pub file : HasRows (new.world.tapes.told store) begun rows (mid.world.tapes.faults store)
@@ -77,7 +77,7 @@ pub record LeavesStore (store : List ℕ) (begun : Begun) (mid new : Around) (hi
 pub record WorkersPage {T L D : Type 0} (values : Values) (link : L → Link)
     (step : L → Exchange → L → Type 0)
     (left : D → Option (List ℕ)) (count : D → ℕ) (store : List ℕ) (begun : Begun)
-    (mid new : Around) (history : List Entry) (ended : List (fleet_worker.Worker T L D))
+    (mid new : Environment) (history : List Entry) (ended : List (fleet_worker.Worker T L D))
     : Type 0 where
   pub parts : List Part
   pub parts_are : map worker_of parts ≡ begun.plan.fleet.workers
@@ -102,7 +102,7 @@ pub record WorkersPage {T L D : Type 0} (values : Values) (link : L → Link)
 pub record WorkersHeadline {T L D : Type 0} (link : L → Link)
     (step : L → Exchange → L → Type 0)
     (left : D → Option (List ℕ)) (count : D → ℕ) (store : List ℕ) (begun : Begun)
-    (mid new : Around) (history : List Entry) (ended : List (fleet_worker.Worker T L D))
+    (mid new : Environment) (history : List Entry) (ended : List (fleet_worker.Worker T L D))
     : Type 0 where
   pub page : WorkersPage sealed_values link step left count store begun mid new history
       ended
@@ -129,14 +129,14 @@ Prints text ending output errors status =
 pub record StartsNobody (T : Type 0) {L D : Type 0} (link : L → Link)
     (step : L → Exchange → L → Type 0)
     (left : D → Option (List ℕ)) (count : D → ℕ) (steps : Steps Begun) (store : List ℕ)
-    (old new : Around) (output errors : Receipt) (status : ℕ) : Type 0 where
+    (old new : Environment) (output errors : Receipt) (status : ℕ) : Type 0 where
   pub stop : Stop
   pub stops : StopsBefore T link step left count steps store old new output (Err stop)
   pub tells : TellsStop stop errors status
 
 module _ (T : Type 0) {L D : Type 0} (link : L → Link)
     (step : L → Exchange → L → Type 0) (lent took : ℕ → L → Type 0)
-    (left : D → Option (List ℕ)) (count : D → ℕ) (words : FleetWords) (old new : Around)
+    (left : D → Option (List ℕ)) (count : D → ℕ) (words : FleetWords) (old new : Environment)
     (output errors : Receipt) (status : ℕ) where
   -- The workers were started, from what the steps up to them came to, and what they stored is
   -- settled: that the store is back so is the last that the world was told. The journal and the
@@ -147,8 +147,8 @@ module _ (T : Type 0) {L D : Type 0} (link : L → Link)
   -- them
   pub record StartsWorkers : Type 0 where
     pub begun : Begun
-    pub mid : Around
-    pub reaches : Reaches (fleet_steps words) (left_of old) mid (gives begun)
+    pub mid : Environment
+    pub reaches : StepsEndAt (fleet_steps words) (step_state old) mid (gives begun)
     pub since : IsHome old mid
     pub history : List Entry
     pub ended : List (fleet_worker.Worker T L D)

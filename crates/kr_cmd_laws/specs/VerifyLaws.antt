@@ -27,7 +27,7 @@ use Rattle.kr_cmd_messages.specs.declared.refusal.Done.TheVariants as done
 use Rattle.kr_cmd_messages.specs.declared.refusal.Outcome.{Outcome}
 use Rattle.kr_cmd_messages.specs.declared.refusal.Refusal.TheVariants.{Value}
 use Rattle.kr_cmd_messages.specs.declared.report.RewriteCounts.{RewriteCounts}
-use Rattle.kr_cmd_steps.specs.Around.{Around}
+use Rattle.kr_cmd_steps.specs.Environment.{Environment}
 use Rattle.kr_cmd_steps.specs.Configuration.{IsConfiguration}
 use Rattle.kr_cmd_steps.specs.Ran.{GivesWith}
 use Rattle.kr_cmd_steps.specs.RowFindings.{findings_outcome}
@@ -53,7 +53,8 @@ rewriting_as words = record {
 }
 
 -- these are the live rows of the store
-pub record AreLive (words : Verification) (old : Around) (live : List stored.Row) : Type 0 where
+pub record AreLive (words : Verification) (old : Environment) (live : List stored.Row)
+    : Type 0 where
   pub bytes : List ℕ
   pub store : Stored
   pub held : Agrees (old.world.tapes.told words.store) (Some bytes)
@@ -63,12 +64,12 @@ pub record AreLive (words : Verification) (old : Around) (live : List stored.Row
 -- ---- what plugins answer
 
 -- no plugin was asked before, and what they are asked is told
-abbrev pub listening : Around → Around
+abbrev pub listening : Environment → Environment
 listening a = record a { heard = Some [] }
 
 -- the steps of a command over the told files, tapes and input, some drawn bytes, and plugins whose
 -- exchanges are such, come to this point
-abbrev pub WouldComeWhere : (Are : List Exchange → Type 0) → Command → Around → Point Outcome
+abbrev pub WouldComeWhere : (Are : List Exchange → Type 0) → Command → Environment → Point Outcome
     → Type 0
 WouldComeWhere Are command old point = (own : List Exchange) × Are own
     × MayEnd (Some own) command (listening old) point
@@ -83,7 +84,7 @@ IsGot (Refused why) point = point ≡ refuses (Value why)
 
 -- from the same beginning, with plugins that answer as they did in these exchanges, `get` of the
 -- row's path would come to that
-abbrev pub WouldGet : Verification → Around → List Exchange → stored.Row → Finding → Type 0
+abbrev pub WouldGet : Verification → Environment → List Exchange → stored.Row → Finding → Type 0
 WouldGet words old exchanges row finding = (point : Point Outcome) × IsGot finding point
     × WouldComeWhere (All (Contains exchanges)) (Get (lookup_as words row.path)) old point
 
@@ -94,7 +95,7 @@ InPairs P (x ∷ xs) (y ∷ ys) = P x y × InPairs P xs ys
 InPairs P xs ys = ⊥
 
 -- each live row has a line, with what `get` of its path says
-pub record IsVerified (words : Verification) (old : Around) (exchanges : List Exchange)
+pub record IsVerified (words : Verification) (old : Environment) (exchanges : List Exchange)
     (made : Outcome) : Type 0 where
   pub live : List stored.Row
   pub findings : List Finding
@@ -103,13 +104,13 @@ pub record IsVerified (words : Verification) (old : Around) (exchanges : List Ex
   pub got : InPairs (WouldGet words old exchanges) live findings
 
 abbrev pub VerifyTellsGets : Type 0
-VerifyTellsGets = (words : Verification) (old : Around) (exchanges : List Exchange)
+VerifyTellsGets = (words : Verification) (old : Environment) (exchanges : List Exchange)
     (made : Outcome) → MayEnd (Some exchanges) (Verify words) (listening old) (gives made)
     → IsVerified words old exchanges made
 
 -- a call of `verify` with these exchanges whose value was written wrote just that
 abbrev pub VerifiedRuns : Type 0
-VerifiedRuns = (words : List (List ℕ)) (asked : Verification) (old new : Around)
+VerifiedRuns = (words : List (List ℕ)) (asked : Verification) (old new : Environment)
     (exchanges : List Exchange) (output errors : Receipt) (status : ℕ) → Asks words (Verify asked)
     → GivesWith words (listening old) (record new { heard = Some exchanges }) output errors status
     → (made : Outcome) × IsVerified asked old exchanges made × (status_of_done made.done ≡ status)
@@ -124,7 +125,7 @@ IsSealable who plain = (length plain ≤ data_limit) × (who ≡ Identity → is
 
 -- what `get` gives of each live row, where plugins answer by these openings, is sealed by the
 -- writer of its resource
-abbrev pub AreSealable : Opens → Verification → Around → Type 0
+abbrev pub AreSealable : Opens → Verification → Environment → Type 0
 AreSealable opens words old = (file : Option (List ℕ)) (rows : List ConfigEntry)
     (live : List stored.Row)
     (row : stored.Row) (made : Outcome) → Agrees (old.world.file words.config) file
@@ -141,8 +142,8 @@ LeavesNone point = ⊤
 -- for any openings with which all agrees that plugins answer to the two: where `verify` would
 -- refuse no value, a rewrite from the same beginning would leave none
 abbrev pub RewriteLeavesNone : Type 0
-RewriteLeavesNone = (words : Verification) (old : Around) (made : Outcome) (point : Point Outcome)
-    (opens : Opens) → IsSome (old.world.file words.config)
+RewriteLeavesNone = (words : Verification) (old : Environment) (made : Outcome)
+    (point : Point Outcome) (opens : Opens) → IsSome (old.world.file words.config)
     → IsSome (old.world.tapes.told words.store) → AreSealable opens words old
     → WouldComeWhere (AgreeAll opens) (Verify words) old (gives made) → made.done ≡ done.Silent
     → WouldComeWhere (AgreeAll opens) (Rewrite (rewriting_as words)) old point → LeavesNone point

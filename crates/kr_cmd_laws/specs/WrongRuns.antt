@@ -18,13 +18,13 @@ use Rattle.kr_workers.specs.declared.worker.Worker as fleet_worker
 use Rattle.kr_headline.specs.Headline.{latest_revision}
 use Rattle.kr_cmd_messages.specs.Receipts.{Receipt}
 use Rattle.kr_cmd_messages.specs.declared.fleet_words.FleetWords.{FleetWords}
-use Rattle.kr_cmd_steps.specs.Around.{Around}
+use Rattle.kr_cmd_steps.specs.Environment.{Environment}
 use Rattle.kr_cmd_fleet.specs.Fleets.{settled_behind, text_of}
 use Rattle.kr_cmd_laws.specs.RunHeadlines.{StartsWorkers, revision_behind}
 
 module _ (T : Type 0) {L D : Type 0} (link : L → Link)
     (step : L → Exchange → L → Type 0) (lent took : ℕ → L → Type 0)
-    (left : D → Option (List ℕ)) (count : D → ℕ) (words : FleetWords) (old new : Around)
+    (left : D → Option (List ℕ)) (count : D → ℕ) (words : FleetWords) (old new : Environment)
     (output errors : Receipt) (status : ℕ) where
   module _ (s : StartsWorkers T link step lent took left count words old new output errors
       status) where
@@ -79,6 +79,6 @@ module _ (T : Type 0) {L D : Type 0} (link : L → Link)
 abbrev pub EachRunIsWrong : (T : Type 0) → {L D : Type 0} → (L → Link)
     → (L → Exchange → L → Type 0) → (lent took : ℕ → L → Type 0) → (D → Option (List ℕ))
     → (D → ℕ) → Type 0
-EachRunIsWrong T link step lent took left count = (words : FleetWords) (old new : Around)
+EachRunIsWrong T link step lent took left count = (words : FleetWords) (old new : Environment)
     (output errors : Receipt) (status : ℕ)
     → IsNeverWrong T link step lent took left count words old new output errors status

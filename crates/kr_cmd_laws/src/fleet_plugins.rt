@@ -16,8 +16,8 @@ pub fn watches_ask()
     ensures { WatchesAsk }
 {}
 
-/// Nor does a fleet or a watch ask more up to there that starts no worker, or whose store can't be
-/// settled behind them.
+/// A fleet or a watch that starts no worker, or whose store can't be settled behind them, asks no
+/// more up to them.
 pub fn stopped_starts_ask<W: World>()
     ensures { StoppedStartsAsk W.Tap W.Link.link W.Link.step W.Rand.left W.Rand.count }
 {}

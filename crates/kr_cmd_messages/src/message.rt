@@ -164,7 +164,7 @@ fn write_refusal<E: Sink>(errors: &mut E, why: &Refusal) -> Result<(), Failed>
     }
 }
 
-/// Writes a line of some words and a name.
+/// Writes a line of these words and a text.
 fn write_named<E: Sink>(errors: &mut E, start: &str, name: &Text) -> Result<(), Failed>
     ensures { Says (receipt (E.held errors.old) (E.held errors.new)
         (E.count errors.old) (E.count errors.new))

@@ -3,7 +3,7 @@ use Rattle.std.proofs.Common.{◌≡◌, ℕ, ◌≤◌, List, [], Option, None,
 use Rattle.kr_base.proofs.Counting.{Rose-later}
 use Rattle.kr_kms.specs.Outside.{Outside}
 use Rattle.kr_kms.specs.declared.world.Access.{Access}
-use Rattle.kr_cmd_steps.specs.Around.{Around, with_world}
+use Rattle.kr_cmd_steps.specs.Environment.{Environment, with_world}
 use Rattle.kr_cmd_steps.specs.Phases.{settled_for, tape_for}
 use Rattle.kr_cmd_steps.specs.Commands.{steps}
 use Rattle.kr_cmd_steps.specs.Ran.{ReportsOf}
@@ -22,7 +22,7 @@ use Rattle.kr_cmd_messages.specs.declared.report.RewriteCounts.{RewriteCounts}
 use Rattle.kr_cmd_rewrite.specs.inner.Rewriting.{to_settle}
 use Rattle.kr_cmd_rewrite.proofs.Said.{saying_world}
 use Rattle.kr_cmd_steps.proofs.Ends.{does_all, report_lost, report_settled, value_done}
-use Rattle.kr_cmd_steps.proofs.Goes.{goes_on, stops}
+use Rattle.kr_cmd_steps.proofs.RunTo.{goes_on, stops}
 use Rattle.kr_cmd_steps.proofs.Lending.{no_more}
 use Rattle.kr_cmd_steps.proofs.Loading.{count_here}
 use Rattle.kr_cmd_steps.proofs.Settling.{is_settled, lends_settled_to, not_settled, rose_later}
@@ -35,9 +35,9 @@ ended_of (Err stop) = record { made = Err stop; said = None }
 
 -- the tape is lent for what follows, and the command goes on to here by that; then this is around
 module _ (command : Command) (name : List ℕ) (is : ReportsOf command name) (access : Access)
-    (next : Steps Outcome) {old : Around} {opened out : Outside} {given : Option (List ℕ)}
-    {first : ℕ} (a b : Around) (silent : b.said ≡ [])
-    (whole : (end : Around) (made : Result Outcome Stop)
+    (next : Steps Outcome) {old : Environment} {opened out : Outside} {given : Option (List ℕ)}
+    {first : ℕ} (a b : Environment) (silent : b.said ≡ [])
+    (whole : (end : Environment) (made : Result Outcome Stop)
     → Does (settled_for Store name access next) (with_world opened a) end made
     → Does (steps command) old end made)
     (loan : LentTape name access opened out given first) (mid new : Outside)
@@ -50,14 +50,14 @@ module _ (command : Command) (name : List ℕ) (is : ReportsOf command name) (ac
   settling_it made = settle Store name (give made)
 
   -- while the tape is out still
-  behind : {end : Around} {made : Result Outcome Stop}
+  behind : {end : Environment} {made : Result Outcome Stop}
       → Does (and_then next settling_it) (with_lent_tape name given first (with_world out a)) end
       made → Does (steps command) old end made
   behind {end} {made} d = whole end made
       (goes_on (tape_for name access nothing) (λ u. and_then next settling_it) tt
       (lent name access _ loan a) d)
 
-  was_less : {made : Result Outcome Stop} (e : Around) (w : Outside)
+  was_less : {made : Result Outcome Stop} (e : Environment) (w : Outside)
       → Does (steps command) old (with_lent_tape name told count (with_world w e)) made
       → old.world.tapes.faults name ≤ count
   was_less e w d =

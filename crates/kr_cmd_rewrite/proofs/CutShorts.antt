@@ -16,7 +16,7 @@ use Rattle.kr_rewrite.specs.DriveExchanges.{Ahead, ReadsRow}
 use Rattle.kr_rewrite.specs.Drives.{CopiesNoPath, IsCutOver, WalksOver, last_of, path_of}
 use Rattle.kr_rewrite.specs.declared.outcome.Report.{Report}
 use Rattle.kr_rewrite.specs.declared.outcome.Step.{Step}
-use Rattle.kr_cmd_steps.specs.Around.{Around, around}
+use Rattle.kr_cmd_steps.specs.Environment.{Environment, around}
 use Rattle.kr_cmd_steps.specs.RewriteSteps.{Progress}
 use Rattle.kr_cmd_rewrite.specs.inner.Rewriting.{MayCutShort}
 use Rattle.kr_cmd_rewrite.proofs.DriveEnds.{cuts, may_cut}
@@ -37,7 +37,7 @@ nowhere = record {
   links = none_out None;
 }
 
-abbrev anywhere : Around
+abbrev anywhere : Environment
 anywhere = around nowhere None 0
 
 module _ {L D : Type 0} (link : L → Link) (links : List L)

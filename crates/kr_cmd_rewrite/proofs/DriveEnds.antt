@@ -29,7 +29,7 @@ use Rattle.kr_rewrite.specs.DriveExchanges.{Ahead, ReadsRow}
 use Rattle.kr_rewrite.specs.Rewrites.{FindsNextOver, FindsNone, IsStepOver, ReplacesBy, ResealsBy, RewritesBy, RewritesData, RewritesOver, StepsOver, unsealed_step}
 use Rattle.kr_rewrite.specs.declared.outcome.Step.{Step}
 use Rattle.kr_rewrite.specs.declared.outcome.Step.TheVariants as step
-use Rattle.kr_cmd_steps.specs.Around.{Around}
+use Rattle.kr_cmd_steps.specs.Environment.{Environment}
 use Rattle.kr_cmd_steps.specs.RewriteSteps.{Progress}
 use Rattle.kr_cmd_rewrite.specs.inner.Rewriting.{MayCutShort}
 use Rattle.kr_cmd_rewrite.proofs.DriveSteps.{Acts_so, IsDriven, acted_left, acted_lone, acts_so, adopted_count, adopted_lone, adopted_rows, found_count, found_holds, found_lone, found_rows, is_first, is_it, is_next, none_left, passes_by, rows_same}
@@ -365,7 +365,7 @@ module _ {D : Type 0} (all : List Exchange) (left : D → Option (List ℕ))
     pub count_stays : (state_of o new.seen).count ≡ o.count
 
   module _ {L : Type 0} (link : L → Link) (links : List L) (distinct : AreDistinct link links)
-      (limit_is : o.limit ≡ store_limit) (a : Around) where
+      (limit_is : o.limit ≡ store_limit) (a : Environment) where
     close_by : (number : ℕ) (q : Publication) (adopted acted : Caller)
         → AddsEntry old (event.Adopt 0) (answer.Adopted number q) adopted
         → StepsOver ReadsRow left count q above adopted olds dice (Ok step.End) acted news after

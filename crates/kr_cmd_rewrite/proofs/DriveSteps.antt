@@ -31,7 +31,7 @@ use Rattle.kr_rewrite.specs.DriveExchanges.{Ahead, ReadsRow}
 use Rattle.kr_rewrite.specs.Rewrites.{FindsNextOver, FindsNone, IsStepOver, ReplacesBy, ResealsBy, RewritesBy, RewritesData, RewritesOver, StepsOver}
 use Rattle.kr_rewrite.specs.declared.outcome.Step.{Step}
 use Rattle.kr_rewrite.specs.declared.outcome.Step.TheVariants as step
-use Rattle.kr_cmd_steps.specs.Around.{Around, with_exchanges}
+use Rattle.kr_cmd_steps.specs.Environment.{Environment, with_exchanges}
 use Rattle.kr_cmd_steps.specs.RewriteSteps.{Progress, row_anew, row_steps}
 use Rattle.kr_cmd_steps.specs.inner.Phases.{Does}
 use Rattle.kr_cmd_rewrite.proofs.LiveRows.{none_next, one_next, still_follows}
@@ -241,10 +241,10 @@ module _ (p : Publication) (row : Row) (at next : Progress) where
 module _ {L D : Type 0} (link : L → Link) (links : List L)
     (distinct : AreDistinct link links) (all : List Exchange) (left : D → Option (List ℕ))
     (count : D → ℕ) (o : Opening) (p : Publication) (one : o.reloads ≡ 0 ∷ [])
-    (limit_is : o.limit ≡ store_limit) (name : List ℕ) (a : Around) (drawn m : ℕ)
+    (limit_is : o.limit ≡ store_limit) (name : List ℕ) (a : Environment) (drawn m : ℕ)
     (above : List ℕ) (rows : List Row) (at : Progress) (old new : Caller) (olds news : Ahead)
     (dice after : D) (driven : IsDriven all o p above rows at old olds) where
-  abbrev Lent : Ahead → D → Around
+  abbrev Lent : Ahead → D → Environment
   Lent s from =
       All_lent link links (left from) drawn name None m (with_exchanges (past all s) a)
 

@@ -31,7 +31,7 @@ use Rattle.kr_rewrite.specs.Drives.{CopiesNoPath, DrivesOver, EndsByOver, IsCutO
 use Rattle.kr_rewrite.specs.declared.outcome.Report.{Report}
 use Rattle.kr_rewrite.specs.declared.outcome.Step.{Step}
 use Rattle.kr_rewrite.specs.declared.outcome.Step.TheVariants as step
-use Rattle.kr_cmd_steps.specs.Around.{Around, with_exchanges, with_what_is_said}
+use Rattle.kr_cmd_steps.specs.Environment.{Environment, with_exchanges, with_what_is_said}
 use Rattle.kr_cmd_rewrite.proofs.HeardRows.{past}
 use Rattle.kr_cmd_steps.specs.RewriteSteps.{Progress, driving, row_steps}
 use Rattle.kr_cmd_steps.specs.Phases.{with_memory}
@@ -49,7 +49,7 @@ use Rattle.kr_cmd_steps.proofs.RisingCounts.{counted as counted_on}
 use Rattle.kr_cmd_rewrite.proofs.DriveEnds.{Cuts, CutsRow, Unfailed, closes, cut_counts, cut_keeps, cuts, unfailed_so}
 use Rattle.kr_cmd_rewrite.proofs.DriveSteps.{IsDriven, acted_lone, acts_so, passes}
 use Rattle.kr_cmd_steps.proofs.Frames.{home, kept}
-use Rattle.kr_cmd_steps.proofs.Goes.{given, goes_on, home_refl, nothing, reach, stops}
+use Rattle.kr_cmd_steps.proofs.RunTo.{given, goes_on, home_refl, nothing, reach, stops}
 use Rattle.kr_cmd_rewrite.proofs.LoneCallers.{IsLone, count_later}
 use Rattle.kr_cmd_steps.proofs.Made.{remembers}
 use Rattle.kr_cmd_rewrite.proofs.Reported.{held_by, reported}
@@ -199,16 +199,16 @@ module _ {L D : Type 0} (link : L → Link) (first last : List L)
     (distinct : (why : CallNo) → AreDistinct link (links_by first last why))
     (all : List Exchange) (left : D → Option (List ℕ)) (count : D → ℕ) (o : Opening)
     (p : Publication) (one : o.reloads ≡ 0 ∷ []) (limit_is : o.limit ≡ store_limit)
-    (name : List ℕ) (a : Around) where
-  abbrev Now : Ahead → Around
+    (name : List ℕ) (a : Environment) where
+  abbrev Now : Ahead → Environment
   Now s = with_exchanges (past all s) a
 
   abbrev pub At : (said : List ℕ) → List L → Ahead → D → (drawn : ℕ) → Option (List ℕ) → ℕ
-      → Around
+      → Environment
   At said links s dice drawn told m =
       All_lent link links (left dice) drawn name told m (with_what_is_said said (Now s))
 
-  module _ (why : CallNo) (drawn m : ℕ) (final : Around) (made : Result Outcome Stop) where
+  module _ (why : CallNo) (drawn m : ℕ) (final : Environment) (made : Result Outcome Stop) where
     abbrev K : List L
     K = links_by first last why
 
@@ -257,7 +257,7 @@ module _ {L D : Type 0} (link : L → Link) (first last : List L)
         text None)))
 
   -- the counts of the random source and of the links are raised
-  raises : {A : Type 0} {next : Steps A} {final : Around} {made : Result A Stop} (said : List ℕ)
+  raises : {A : Type 0} {next : Steps A} {final : Environment} {made : Result A Stop} (said : List ℕ)
       (now : List L) → AskedOnly link (names_of link first) first now → (s : Ahead) (dice : D)
       (before drawn : ℕ) (told : Option (List ℕ)) (m : ℕ) → before ≤ drawn
       → Does next (At said now s dice drawn told m) final made
@@ -280,7 +280,7 @@ module _ {L D : Type 0} (link : L → Link) (first last : List L)
   module _ (store : Kept) (m : ℕ) (later : m ≤ store.count) (at : Progress)
       (holds : HoldsRows at.store store.told) (s : Ahead) (dice : D) (drawn : ℕ)
       (said : List ℕ) (told : Option (List ℕ)) where
-    abbrev Last : Around
+    abbrev Last : Environment
     Last = At (report_text at.counts) last s dice drawn store.told store.count
 
     -- no row is left
@@ -319,10 +319,10 @@ module _ {L D : Type 0} (link : L → Link) (first last : List L)
       (store_holds : Holds store)
       (driven : IsDriven all o p [] rows at old olds) (few : length rows ≤ 1000000)
       (room : 4 * length rows + 3 ≤ old.left) (told : Option (List ℕ)) where
-    abbrev Begin : Around
+    abbrev Begin : Environment
     Begin = At a.said first olds dice (count dice) told o.count
 
-    abbrev End : Around
+    abbrev End : Environment
     End = At (report_text (report_counts report)) last news after (count after) store.told
         store.count
 

@@ -20,7 +20,7 @@ use Rattle.kr_opening.specs.Replicas.{current_from, generations_from}
 use Rattle.kr_rewrite.specs.DriveExchanges.{Ahead, ReadsRow}
 use Rattle.kr_rewrite.specs.Drives.{CopiesNoPath, DrivesOver, IsCutOver, IsDrive}
 use Rattle.kr_rewrite.specs.declared.outcome.Report.{Report}
-use Rattle.kr_cmd_steps.specs.Around.{Around, with_exchanges}
+use Rattle.kr_cmd_steps.specs.Environment.{Environment, with_exchanges}
 use Rattle.kr_cmd_rewrite.proofs.HeardRows.{Follows, past}
 use Rattle.kr_cmd_rewrite.proofs.RowCuts.{links_by}
 use Rattle.kr_history.specs.declared.call.CallNo.TheVariants as no
@@ -121,14 +121,14 @@ module _ {L D : Type 0} (link : L → Link) (first last : List L)
     (torn : store.torn ≡ true → (closed.opening.torn ≡ true)
     ⊎ Rose closed.opening.count store.count)
     (store_holds : Holds store) (bounded : store.count < 2 ^ 64) (drawn : count dice ≤ count after)
-    (name : List ℕ) (a : Around) (live : List Row) (told : Option (List ℕ)) (p : Publication)
+    (name : List ℕ) (a : Environment) (live : List Row) (told : Option (List ℕ)) (p : Publication)
     (is : IsListing core.opening.rows live)
     (replicas_are : core.opening.replicas ≡ Some p ∷ []) (report : Report) (ended : Ended) where
-  abbrev Old : Around
+  abbrev Old : Environment
   Old = All_lent link first (left dice) (count dice) name told core.opening.count
       (with_exchanges (past all olds) a)
 
-  abbrev New : Around
+  abbrev New : Environment
   New = All_lent link last (left after) (count after) name store.told store.count
       (with_exchanges (past all news) a)
 

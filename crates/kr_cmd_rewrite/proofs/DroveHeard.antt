@@ -20,7 +20,7 @@ use Rattle.kr_rewrite.specs.DriveExchanges.{IsDriveBy, before, behind}
 use Rattle.kr_rewrite.specs.declared.outcome.Report.{Report}
 use Rattle.kr_cmd_messages.specs.declared.refusal.Ended.{Ended}
 use Rattle.kr_cmd_messages.specs.declared.refusal.Stop.{Stop}
-use Rattle.kr_cmd_steps.specs.Around.{Around, with_exchanges}
+use Rattle.kr_cmd_steps.specs.Environment.{Environment, with_exchanges}
 use Rattle.kr_cmd_steps.specs.RewriteSteps.{nothing_done, driving}
 use Rattle.kr_cmd_steps.specs.inner.Phases.{Does}
 use Rattle.kr_cmd_steps.specs.inner.Reporting.{saying}
@@ -92,17 +92,17 @@ module _ {L : Type 0} (link : L → Link) (first last : List L) (distinct : AreD
         (torn : store.torn ≡ true → (closed.opening.torn ≡ true)
         ⊎ Rose closed.opening.count store.count)
         (store_holds : Holds store) (bounded : store.count < 2 ^ 64)
-        (drawn : count dice ≤ count after) (name : List ℕ) (a : Around) (live : List Row)
+        (drawn : count dice ≤ count after) (name : List ℕ) (a : Environment) (live : List Row)
         (told : Option (List ℕ)) (p : Publication)
         (is : IsListing core.opening.rows live)
         (replicas_are : core.opening.replicas ≡ Some p ∷ []) (ended : Ended) where
-      abbrev Before : Around → Around
+      abbrev Before : Environment → Environment
       Before b = All_lent link first (left dice) (count dice) name told core.opening.count b
 
-      abbrev Behind : Around → Around
+      abbrev Behind : Environment → Environment
       Behind b = All_lent link last (left after) (count after) name store.told store.count b
 
-      abbrev Whole : Around → Around → Type 0
+      abbrev Whole : Environment → Environment → Type 0
       Whole b d = Does (driving name p live cache (nothing_done (opened_store core))) (Before b)
           (saying ended.said (Behind d)) ended.made
 

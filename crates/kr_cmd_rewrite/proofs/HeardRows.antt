@@ -18,7 +18,7 @@ use Rattle.kr_provider.specs.declared.refusal.ValueNo.{ValueNo}
 use Rattle.kr_store.specs.declared.rows.Row.{Row}
 use Rattle.kr_rewrite.specs.DriveExchanges.{Ahead, ReadsRow}
 use Rattle.kr_cmd_messages.specs.declared.refusal.Stop.{Stop}
-use Rattle.kr_cmd_steps.specs.Around.{Around, with_exchanges}
+use Rattle.kr_cmd_steps.specs.Environment.{Environment, with_exchanges}
 use Rattle.kr_cmd_steps.specs.ValueSteps.{value_read}
 use Rattle.kr_cmd_steps.specs.inner.Phases.{Does}
 use Rattle.kr_cmd_steps.proofs.Frames.{Seen}
@@ -78,13 +78,13 @@ module _ (all : List Exchange) where
 
 -- what a row's reading does, where its links come to be these
 module _ {L : Type 0} (link : L → Link) (all : List Exchange) (links news : List L)
-    (distinct : AreDistinct link links) (dice : Option (List ℕ)) (count : ℕ) (a : Around)
+    (distinct : AreDistinct link links) (dice : Option (List ℕ)) (count : ℕ) (a : Environment)
     (p : Publication) (row : Row) (from : Ahead) (opened : Result Opened UnsealNo) (to : Ahead)
     (f : Follows all from) (r : ReadsRow p row from opened to) where
-  abbrev Here : Ahead → List L → Around
+  abbrev Here : Ahead → List L → Environment
   Here s now = Seen link (with_exchanges (past all s) a) now dice count
 
-  abbrev Value : Around → Around → Result (Result Opened ValueNo × CacheState) Stop → Type 0
+  abbrev Value : Environment → Environment → Result (Result Opened ValueNo × CacheState) Stop → Type 0
   Value old new made = Does
       (value_read p.seeds (list_of p.rows row.resource) row.path row.stored from.cache) old new made
 

@@ -4,14 +4,14 @@ use Rattle.kr_kms.specs.Calls.{Link}
 use Rattle.kr_kms.specs.Outside.{same_name}
 use Rattle.kr_history.specs.declared.call.CallNo.{CallNo}
 use Rattle.kr_history.specs.declared.call.CallNo.TheVariants as no
-use Rattle.kr_cmd_steps.specs.Around.{Around, Stays, IsHome, with_what_is_said}
+use Rattle.kr_cmd_steps.specs.Environment.{Environment, IsStateOf, IsHome, with_what_is_said}
 use Rattle.kr_cmd_steps.specs.RewriteSteps.{Progress, reporting}
 use Rattle.kr_cmd_messages.specs.Reports.{report_text}
-use Rattle.kr_cmd_steps.specs.Steps.{Steps, Left, with_said, with_told}
+use Rattle.kr_cmd_steps.specs.Steps.{Steps, StepState, with_said, with_told}
 use Rattle.kr_cmd_steps.specs.StoreFiles.{Stored, HoldsRows}
 use Rattle.kr_cmd_messages.specs.declared.refusal.Stop.{Stop}
 use Rattle.kr_cmd_steps.specs.inner.Phases.{Does}
-use Rattle.kr_cmd_steps.proofs.Goes.{files_same, goes_on, nothing, reach}
+use Rattle.kr_cmd_steps.proofs.RunTo.{files_same, goes_on, nothing, reach}
 use Rattle.kr_cmd_steps.proofs.Lending.{home_same}
 use Rattle.kr_cmd_steps.proofs.Loading.{no_less, told_so}
 use Rattle.kr_cmd_rewrite.proofs.DriveEnds.{Unfailed}
@@ -27,15 +27,15 @@ held_by store told before now why more h = (more, h)
 
 module _ {L : Type 0} (link : L → Link) (links : List L) (left : Option (List ℕ)) (drawn : ℕ)
     (name : List ℕ) (at : Progress) (told now : Option (List ℕ)) (before count : ℕ)
-    (more : before ≤ count) (holds : HoldsRows at.store now) (a : Around) where
-  abbrev Old : Around
+    (more : before ≤ count) (holds : HoldsRows at.store now) (a : Environment) where
+  abbrev Old : Environment
   Old = All_lent link links left drawn name told before a
 
-  abbrev Mid : Around
+  abbrev Mid : Environment
   Mid = All_lent link links left drawn name now count
       (with_what_is_said (report_text at.counts) a)
 
-  abbrev then_left : Left → Left
+  abbrev then_left : StepState → StepState
   then_left l = with_said (report_text at.counts) (with_told name now l)
 
   home : IsHome Old Mid
@@ -50,7 +50,7 @@ module _ {L : Type 0} (link : L → Link) (links : List L) (left : Option (List 
     input = omega arith;
   }
 
-  stays : (l : Left) → Stays l Old → Stays (then_left l) Mid
+  stays : (l : StepState) → IsStateOf l Old → IsStateOf (then_left l) Mid
   stays l s = record {
     file = s.file;
     tapes = told_so name told now a.world.tapes.told l.tapes s.tapes;
@@ -68,6 +68,6 @@ module _ {L : Type 0} (link : L → Link) (links : List L) (left : Option (List 
     ends = λ l s. reach (then_left l) (now, holds, (refl, refl)) (stays l s);
   }
 
-  pub reported : {A : Type 0} {next : Steps A} {new : Around} {result : Result A Stop}
+  pub reported : {A : Type 0} {next : Steps A} {new : Environment} {result : Result A Stop}
       → Does next Mid new result → Does (reporting name at next) Old new result
   reported {next = next} d = goes_on (reporting name at nothing) (λ u. next) tt kept d

@@ -38,7 +38,7 @@ use Rattle.kr_rollout.specs.Writes.{file_size}
 use Rattle.kr_rewrite.specs.DriveExchanges.{Ahead, ReadsRow}
 use Rattle.kr_rewrite.specs.Rewrites.{ReplacesBy, ResealsBy, RewritesBy, RewritesOver, RewritesData, unread_step, unsealed_step}
 use Rattle.kr_rewrite.specs.declared.outcome.Step.{Step}
-use Rattle.kr_cmd_steps.specs.Around.{Around, with_exchanges}
+use Rattle.kr_cmd_steps.specs.Environment.{Environment, with_exchanges}
 use Rattle.kr_cmd_steps.specs.RewriteSteps.{Progress, one_rewritten, replacing, resealing, row_anew, row_by, row_data, row_steps}
 use Rattle.kr_cmd_steps.specs.Phases.{adding, with_memory}
 use Rattle.kr_cmd_steps.specs.ValueSteps.{value_read, value_sealed}
@@ -51,7 +51,7 @@ use Rattle.kr_cmd_steps.specs.inner.Lent.{with_lent_dice, with_lent_links, with_
 use Rattle.kr_cmd_steps.specs.inner.Phases.{Does}
 use Rattle.kr_cmd_rewrite.specs.inner.Rewriting.{IsDriveStop}
 use Rattle.kr_cmd_steps.proofs.AddedRows.{row_is_above, row_is_lacking, row_is_torn}
-use Rattle.kr_cmd_steps.proofs.Goes.{goes_on, home_refl, reach, stops}
+use Rattle.kr_cmd_steps.proofs.RunTo.{goes_on, home_refl, reach, stops}
 use Rattle.kr_cmd_rewrite.proofs.LoneCallers.{IsLone, replace_failed, tells}
 use Rattle.kr_cmd_steps.proofs.Made.{remembers}
 use Rattle.kr_cmd_rewrite.proofs.Said.{All_lent}
@@ -102,11 +102,11 @@ module _ {L D : Type 0} (link : L → Link) (first last : List L)
     (distinct : (why : CallNo) → AreDistinct link (links_by first last why))
     (all : List Exchange) (left : D → Option (List ℕ)) (count : D → ℕ) (o : Opening)
     (p : Publication) (one : o.reloads ≡ 0 ∷ []) (limit_is : o.limit ≡ store_limit)
-    (name : List ℕ) (a : Around) where
-  abbrev Now : Ahead → Around
+    (name : List ℕ) (a : Environment) where
+  abbrev Now : Ahead → Environment
   Now s = with_exchanges (past all s) a
 
-  abbrev pub Around_at : List L → Ahead → D → (drawn : ℕ) → Option (List ℕ) → ℕ → Around
+  abbrev pub Around_at : List L → Ahead → D → (drawn : ℕ) → Option (List ℕ) → ℕ → Environment
   Around_at links s dice drawn told faults =
       All_lent link links (left dice) drawn name told faults (Now s)
 

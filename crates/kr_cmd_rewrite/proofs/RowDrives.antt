@@ -35,7 +35,7 @@ use Rattle.kr_rewrite.specs.DriveExchanges.{Ahead, ReadsRow}
 use Rattle.kr_rewrite.specs.Rewrites.{ReplacesBy, ResealsBy, RewritesBy, RewritesOver, RewritesData, unread_step, unsealed_step}
 use Rattle.kr_rewrite.specs.declared.outcome.Step.{Step}
 use Rattle.kr_rewrite.specs.declared.outcome.Step.TheVariants as step
-use Rattle.kr_cmd_steps.specs.Around.{Around, with_exchanges}
+use Rattle.kr_cmd_steps.specs.Environment.{Environment, with_exchanges}
 use Rattle.kr_cmd_steps.specs.RewriteSteps.{Progress, one_fresh, one_left, one_rewritten, replacing, resealing, row_anew, row_by, row_data, row_steps}
 use Rattle.kr_cmd_steps.specs.Phases.{adding, with_memory}
 use Rattle.kr_cmd_steps.specs.ValueSteps.{value_read, value_sealed}
@@ -45,7 +45,7 @@ use Rattle.kr_cmd_messages.specs.declared.refusal.Object.TheVariants.{Store}
 use Rattle.kr_cmd_steps.specs.inner.Lent.{with_lent_dice, with_lent_links, with_lent_tape}
 use Rattle.kr_cmd_steps.specs.inner.Phases.{Does}
 use Rattle.kr_cmd_steps.proofs.AddedRows.{row_is_added}
-use Rattle.kr_cmd_steps.proofs.Goes.{given, goes_on}
+use Rattle.kr_cmd_steps.proofs.RunTo.{given, goes_on}
 use Rattle.kr_cmd_rewrite.proofs.LoneCallers.{IsLone, not_changed, replaces, tells}
 use Rattle.kr_cmd_steps.proofs.Made.{remembers}
 use Rattle.kr_cmd_rewrite.proofs.Said.{All_lent}
@@ -99,18 +99,18 @@ was_short false value stored e = refl
 module _ {L D : Type 0} (link : L → Link) (links : List L)
     (distinct : AreDistinct link links) (all : List Exchange) (left : D → Option (List ℕ))
     (count : D → ℕ) (o : Opening) (p : Publication) (one : o.reloads ≡ 0 ∷ [])
-    (limit_is : o.limit ≡ store_limit) (name : List ℕ) (a : Around)
+    (limit_is : o.limit ≡ store_limit) (name : List ℕ) (a : Environment)
     (drawn : ℕ) where
   -- where these exchanges are still to come
-  abbrev Now : Ahead → Around
+  abbrev Now : Ahead → Environment
   Now s = with_exchanges (past all s) a
 
   -- what is around, with this count of the random source
-  abbrev pub Out : Ahead → D → Option (List ℕ) → ℕ → Around
+  abbrev pub Out : Ahead → D → Option (List ℕ) → ℕ → Environment
   Out s dice told faults = All_lent link links (left dice) drawn name told faults (Now s)
 
   -- what is around but for the tape
-  abbrev pub Beside : Ahead → D → Around
+  abbrev pub Beside : Ahead → D → Environment
   Beside s dice = with_lent_links link 0 links (with_lent_dice 0 (left dice) drawn (Now s))
 
   module _ (row : Row) (at : Progress) (found : Caller) (number : ℕ) (lone : IsLone o p found)

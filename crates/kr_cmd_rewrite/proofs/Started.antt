@@ -16,7 +16,7 @@ use Rattle.kr_opening.specs.declared.opening_board.StartNo.{StartNo}
 use Rattle.kr_opening.specs.declared.opening_board.StartNo.TheVariants as start
 use Rattle.kr_store.specs.Stores.{Kept}
 use Rattle.kr_store.specs.declared.rows.Row as stored
-use Rattle.kr_cmd_steps.specs.Around.{Around}
+use Rattle.kr_cmd_steps.specs.Environment.{Environment}
 use Rattle.kr_cmd_steps.specs.RewriteSteps.{nothing_done, driving, rewriting_by, starting}
 use Rattle.kr_cmd_steps.specs.ValueSteps.{none_kept}
 use Rattle.kr_cmd_steps.specs.Judgements.{start_refusal}
@@ -32,7 +32,7 @@ use Rattle.kr_cmd_steps.specs.inner.Phases.{Does}
 use Rattle.kr_cmd_steps.specs.inner.Starts.{start_stop}
 use Rattle.kr_cmd_rewrite.specs.inner.Rewriting.{HasRoom, IsAlone, opened_store}
 use Rattle.kr_cmd_steps.specs.inner.Tapes.{stored_of}
-use Rattle.kr_cmd_steps.proofs.Goes.{goes_on, home_refl, reach}
+use Rattle.kr_cmd_steps.proofs.RunTo.{goes_on, home_refl, reach}
 use Rattle.kr_cmd_steps.proofs.Made.{seeded, unseeded}
 use Rattle.kr_cmd_rewrite.proofs.Said.{All_lent}
 use Rattle.kr_cmd_steps.proofs.Works.{lacks}
@@ -45,20 +45,20 @@ module _ (name : List ℕ) (rows : List ConfigEntry) (store : Stored) (live : Li
   from_seeds seeds = and_then (starting store.rows rows) (λ u.
       driving name (record { rows = rows; seeds = seeds }) live none_kept (nothing_done store))
 
-  pub by_lacks : (a : Around) → Does By a a (Err NoMemory)
+  pub by_lacks : (a : Environment) → Does By a a (Err NoMemory)
   by_lacks a = lacks (and_then (make_seeds (plugin_order rows)) from_seeds) a
 
-  module _ {others : List ConfigEntry} (same : others ≡ rows) {old mid : Around} where
+  module _ {others : List ConfigEntry} (same : others ≡ rows) {old mid : Environment} where
     pub by_unpublished : (stop : Stop) → Does (make_seeds (plugin_order others)) old mid (Err stop)
         → Does By old mid (Err stop)
     by_unpublished stop d = unseeded from_seeds same stop d
 
-    pub by_seeds : {new : Around} {result : Result Outcome Stop} (seeds : List SeedRow)
+    pub by_seeds : {new : Environment} {result : Result Outcome Stop} (seeds : List SeedRow)
         → Does (make_seeds (plugin_order others)) old mid (Ok seeds)
         → Does (from_seeds seeds) mid new result → Does By old new result
     by_seeds seeds d e = seeded from_seeds same seeds d e
 
-  module _ (seeds : List SeedRow) (a : Around) where
+  module _ (seeds : List SeedRow) (a : Environment) where
     pub start_lacks : Does (from_seeds seeds) a a (Err NoMemory)
     start_lacks =
         record { home = home_refl a; ends = λ left s. inr (reach left (inl (refl, refl)) s) }
@@ -80,7 +80,7 @@ module _ (name : List ℕ) (rows : List ConfigEntry) (store : Stored) (live : Li
         starts_not (Unfit replica verdict) (start.Unfit replica verdict) none refl
     not_started start.NoMemory none = start_lacks
 
-    pub started : {new : Around} {result : Result Outcome Stop}
+    pub started : {new : Environment} {result : Result Outcome Stop}
         → MayStart store.rows (Some rows ∷ [])
         → Does (driving name (record { rows = rows; seeds = seeds }) live none_kept
         (nothing_done store)) a new result
@@ -120,13 +120,13 @@ pub all_of_one : {A : Type 0} (P : A → Type 0) (x : A) → P x → All P (x �
 all_of_one P x is = All-push P [] x (λ k d within. absurd (omega (arith, within))) is
 
 module _ {L D : Type 0} (link : L → Link) (left : D → Option (List ℕ)) (count : D → ℕ)
-    (name : List ℕ) (a : Around) where
-  abbrev pub Out : List L → D → Kept → Around
+    (name : List ℕ) (a : Environment) where
+  abbrev pub Out : List L → D → Kept → Environment
   Out links dice store =
       All_lent link links (left dice) (count dice) name store.told store.count a
 
   -- what was made of them is back
-  pub back_by : {next : Steps Outcome} {old : Around} {result : Result Outcome Stop}
+  pub back_by : {next : Steps Outcome} {old : Environment} {result : Result Outcome Stop}
       (links mids : List L) (dice mid : D) (store kept : Kept) → links ≡ mids → dice ≡ mid
       → store ≡ kept → Does next old (Out mids mid kept) result
       → Does next old (Out links dice store) result
@@ -138,7 +138,7 @@ module _ {L D : Type 0} (link : L → Link) (left : D → Option (List ℕ)) (co
   pub driven_on : (rows : List ConfigEntry) (live : List stored.Row) (store : Kept) (p : Publication)
       (core : CoreState) (benched mids : List L) (held mid : D) (kept : CacheState)
       (names : List (List ℕ)) (room : ℕ)
-      {new : Around} {made : Result Outcome Stop} → core ≡ Alone store p names room
+      {new : Environment} {made : Result Outcome Stop} → core ≡ Alone store p names room
       → benched ≡ mids → held ≡ mid → kept ≡ none_kept → p.rows ≡ rows
       → Does (driving name p live kept (nothing_done (opened_store core)))
       (All_lent link benched (left held) (count held) name store.told core.opening.count a) new made

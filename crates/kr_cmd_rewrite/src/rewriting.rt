@@ -11,7 +11,7 @@ ghost use Rattle.kr_provider.specs.PluginOrder.{plugin_order};
 ghost use Rattle.kr_provider.specs.Publication.{Publication};
 ghost use Rattle.kr_history.specs.Calls.{AreServed};
 ghost use Rattle.kr_store.specs.Stores.{IsListing};
-ghost use Rattle.kr_cmd_steps.specs.Around.{Around, with_exchanges, with_world};
+ghost use Rattle.kr_cmd_steps.specs.Environment.{Environment, with_exchanges, with_world};
 ghost use Rattle.kr_cmd_steps.specs.Heard.{Heard};
 ghost use Rattle.kr_cmd_steps.specs.RewriteSteps.{nothing_done, driving, rewriting_on, rewriting_by};
 ghost use Rattle.kr_cmd_steps.specs.Phases.{stored_on};
@@ -50,7 +50,7 @@ const CACHE: u32 = 64;
 /// Writes the stale rows of a store anew.
 pub fn rewrite<W: World>(alloc: Global, words: &Rewriting, world: &mut W) -> Ended
     ensures { Heard W.Link.link W.lent W.took W.Link.step 0
-        (W.told world.old) (W.told world.new) [] [] (λ es. (a : Around)
+        (W.told world.old) (W.told world.new) [] [] (λ es. (a : Environment)
         → a.said ≡ [] → DoesAll (Rewrite words.now)
         (with_world (W.told world.old) a)
         (saying result.said (with_world (W.told world.new) (with_exchanges es a)))
@@ -104,7 +104,7 @@ fn rewrite_on_tape<W: World>(
     requires programs { map (λ program. program.plugin) programs.now
         ≡ plugin_order (rows_of settings.entries.0) }
     ensures ended { Heard W.Link.link W.lent W.took W.Link.step 0
-        (W.told world.old) (W.told world.new) [] [] (λ es. (name : Name) (a : Around)
+        (W.told world.old) (W.told world.new) [] [] (λ es. (name : Name) (a : Environment)
         → Does
         (rewriting_on name (rows_of settings.entries.0) programs.now)
         (with_lent_tape name (W.Tap.told tape) (W.Tap.count tape) (with_world (W.told world.old) a))
@@ -151,11 +151,11 @@ fn rewrite_on_tape<W: World>(
 /// Loads the store of a tape. Where the tape's count of faults can't rise any more, a write that
 /// failed couldn't be told, so the tape counts as failed.
 fn load_counted<T: Tape>(alloc: Global, tape: T) -> Result<Store<T>, (Stop, T)>
-    ensures ok { IfOk result (λ store. (name : Name) (a : Around)
+    ensures ok { IfOk result (λ store. (name : Name) (a : Environment)
         → Does (stored_on object.Store name)
         (with_lent_tape name (T.told tape) (T.count tape) a)
         (with_lent_tape name store.told store.count a) (Ok (stored_of store))) }
-    ensures err { IfErr result (λ refused. (name : Name) (a : Around)
+    ensures err { IfErr result (λ refused. (name : Name) (a : Environment)
         → Does (stored_on object.Store name)
         (with_lent_tape name (T.told tape) (T.count tape) a)
         (with_lent_tape name (T.told refused.1) (T.count refused.1) a) (Err refused.0)) }
@@ -227,7 +227,7 @@ fn rewrite_linked<W: World, T: Tape>(
     requires counts { rollout.store.count < 2 ^ 64 - 1 }
     ensures ended { Heard W.Link.link W.lent W.took W.Link.step 0
         (W.told world.old) (W.told world.new) links result.2 (λ es. (name : Name)
-        (tapes : Tapes) (a : Around) (live : LiveRows)
+        (tapes : Tapes) (a : Environment) (live : LiveRows)
         → IsListing rollout.store.rows live → Does
         (borrow_links programs.now (rewriting_by name (rows_of settings.entries.0)
         (stored_of rollout.store) live))
@@ -293,7 +293,7 @@ fn rewrite_by_settings<T: Tape, L: Kms, D: Dice>(
     requires within { rollout.store.limit ≡ store_limit }
     requires whole { rollout.store.torn ≡ false }
     requires counts { rollout.store.count < 2 ^ 64 - 1 }
-    ensures ended { Talk (Among L.step) links result.2 (λ es. (name : Name) (a : Around)
+    ensures ended { Talk (Among L.step) links result.2 (λ es. (name : Name) (a : Environment)
         (live : LiveRows) → IsListing rollout.store.rows live → Does
         (rewriting_by name (rows_of settings.entries.0) (stored_of rollout.store) live)
         (with_lent_links L.link 0 links (with_lent_dice 0 (D.left dice) (D.count dice)
@@ -380,7 +380,7 @@ fn drive_all<T: Tape, L: Kms, D: Dice>(
     requires distinct { AreDistinct L.link bench.links }
     requires pages { 64 ≤ size_of bench.pages }
     requires unadopted { bench.published ≡ None }
-    ensures ended { Talk (Among L.step) bench.links result.2 (λ es. (name : Name) (a : Around)
+    ensures ended { Talk (Among L.step) bench.links result.2 (λ es. (name : Name) (a : Environment)
         (live : LiveRows) (told : Told) (p : Publication) → IsListing core.opening.rows live
         → core.opening.replicas ≡ Some p ∷ [] → Does
         (driving name p live bench.cache (nothing_done (opened_store core)))

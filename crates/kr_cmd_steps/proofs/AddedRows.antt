@@ -6,9 +6,9 @@ use Rattle.kr_base.specs.Faults.{Rose}
 use Rattle.kr_base.specs.Limits.{store_limit}
 use Rattle.kr_store.specs.File.{file_bytes}
 use Rattle.kr_store.specs.declared.rows.LogRow.{LogRow}
-use Rattle.kr_cmd_steps.specs.Around.{Around}
+use Rattle.kr_cmd_steps.specs.Environment.{Environment}
 use Rattle.kr_cmd_steps.specs.Phases.{adding, by_result, within_limit}
-use Rattle.kr_cmd_steps.specs.Steps.{Steps, write_row, give, and_then, writing, refuses, Left, Goes, Point, with_told}
+use Rattle.kr_cmd_steps.specs.Steps.{Steps, write_row, give, and_then, writing, refuses, StepState, RunTo, Point, with_told}
 use Rattle.kr_cmd_steps.specs.StoreFiles.{Stored, with_row, HoldsRows, BeginsWith}
 use Rattle.kr_cmd_messages.specs.declared.refusal.Limit.TheVariants as limit
 use Rattle.kr_cmd_messages.specs.declared.refusal.Object.{Object}
@@ -16,12 +16,12 @@ use Rattle.kr_cmd_messages.specs.declared.refusal.Refusal.TheVariants.{Limit}
 use Rattle.kr_cmd_messages.specs.declared.refusal.Stop.TheVariants.{Refused, Fault, NoMemory}
 use Rattle.kr_cmd_steps.specs.inner.Lent.{with_lent_tape}
 use Rattle.kr_cmd_steps.specs.inner.Phases.{Does}
-use Rattle.kr_cmd_steps.proofs.Goes.{reach}
+use Rattle.kr_cmd_steps.proofs.RunTo.{reach}
 use Rattle.kr_cmd_steps.proofs.Loading.{count_here, counted_tape, home_retold, retold, tape_home, tape_rose}
 
 module _ (object : Object) (name : List ℕ) (store : Stored) (row : LogRow)
-    (told after : Option (List ℕ)) (before count : ℕ) (later : before ≤ count) (a : Around) where
-  abbrev Old : Around
+    (told after : Option (List ℕ)) (before count : ℕ) (later : before ≤ count) (a : Environment) where
+  abbrev Old : Environment
   Old = with_lent_tape name told before a
 
   abbrev grown : Stored
@@ -41,12 +41,12 @@ module _ (object : Object) (name : List ℕ) (store : Stored) (row : LogRow)
   large long = ap (λ (q : Bool). if q then Err (Limit limit.Store) else Ok grown)
       (lt-ltb store_limit size long)
 
-  passes : {left end : Left} {point : Point Stored} → size ≤ store_limit
-      → Goes point end (next grown) left → Goes point end (adding object name store row) left
+  passes : {left end : StepState} {point : Point Stored} → size ≤ store_limit
+      → RunTo point end (next grown) left → RunTo point end (adding object name store row) left
   passes {left} {end} {point} short goes = inr (
     tt,
     tt,
-    subst (λ r. Goes point end (and_then (by_result r) next) left) (sym (small short)) goes,
+    subst (λ r. RunTo point end (and_then (by_result r) next) left) (sym (small short)) goes,
   )
 
   pub row_is_added : HoldsRows grown after → size ≤ store_limit
@@ -84,7 +84,7 @@ module _ (object : Object) (name : List ℕ) (store : Stored) (row : LogRow)
     ends = λ left s. reach left (inr (
       tt,
       tt,
-      subst (λ r. Goes (refuses (Limit limit.Store)) left (and_then (by_result r) next) left)
+      subst (λ r. RunTo (refuses (Limit limit.Store)) left (and_then (by_result r) next) left)
           (sym (large long)) (refl, refl),
     )) (counted_tape name told before a count later s);
   }

@@ -10,7 +10,7 @@ use Rattle.kr_store.specs.declared.answers.PutNo.{PutNo}
 use Rattle.kr_store.specs.declared.answers.PutNo.TheVariants as refused
 use Rattle.kr_store.specs.declared.format.Format.{Format}
 use Rattle.kr_store.specs.declared.rows.LogRow.{LogRow}
-use Rattle.kr_cmd_steps.specs.Around.{Around}
+use Rattle.kr_cmd_steps.specs.Environment.{Environment}
 use Rattle.kr_cmd_steps.specs.Phases.{adding, silently}
 use Rattle.kr_cmd_steps.specs.StoreSteps.{revision_line}
 use Rattle.kr_cmd_steps.specs.Steps.{Steps, give, and_then}
@@ -25,7 +25,7 @@ use Rattle.kr_cmd_messages.specs.declared.refusal.Outcome.{Outcome}
 use Rattle.kr_cmd_messages.specs.declared.refusal.Stop.{Stop}
 use Rattle.kr_cmd_messages.specs.declared.refusal.Stop.TheVariants.{Refused, Fault, NoMemory}
 use Rattle.kr_cmd_steps.proofs.AddedRows.{row_is_above, row_is_added, row_is_lacking, row_is_torn}
-use Rattle.kr_cmd_steps.proofs.Goes.{given as given_so, goes_on, stops}
+use Rattle.kr_cmd_steps.proofs.RunTo.{given as given_so, goes_on, stops}
 
 -- ---- what a tape tells
 
@@ -63,8 +63,8 @@ now_begins store now (file, is, long, short, told) rows format =
     (subst (λ r. IsFile now.format r file) rows is)) told
 
 module _ (object : Object) (name : List ℕ) (row : LogRow) (old new : Kept)
-    (limit_is : old.limit ≡ store_limit) (a : Around) where
-  abbrev Out : Kept → Around
+    (limit_is : old.limit ≡ store_limit) (a : Environment) where
+  abbrev Out : Kept → Environment
   Out store = with_lent_tape name store.told store.count a
 
   -- what the row's steps come to
@@ -161,7 +161,7 @@ one_more w = record { rows = w.rows; format = w.format; within = w.limit }
 
 -- ---- what `put` answers
 
-pub put_answers : (object : Object) (name : List ℕ) {old new : Around} (read : Stored)
+pub put_answers : (object : Object) (name : List ℕ) {old new : Environment} (read : Stored)
     (row given : LogRow) (added : Result (Unit {0}) Stop) (line : List ℕ) → given ≡ row
     → line ≡ revision_line (with_row row read)
     → Does (adding object name read given) old new (grown_by given read added)

@@ -3,7 +3,7 @@ use Rattle.std.proofs.Common.{◌≡◌, ℕ, List, Option, Result, refl, sym, s
 use Rattle.kr_config.specs.Kept.{ConfigEntry}
 use Rattle.kr_kms.specs.Calls.{Link}
 use Rattle.kr_kms.specs.Outside.{Outside, KeepsFiles, KeepsObjects}
-use Rattle.kr_cmd_steps.specs.Around.{Around, with_world}
+use Rattle.kr_cmd_steps.specs.Environment.{Environment, with_world}
 use Rattle.kr_cmd_steps.specs.ValueSteps.{bench_steps}
 use Rattle.kr_cmd_steps.specs.Steps.{Steps}
 use Rattle.kr_cmd_messages.specs.declared.command.Direction.{Direction}
@@ -72,7 +72,7 @@ module _ (tapes : Tapes) {old new : Outside} where
 
 -- no tape is out
 pub unlent : {A : Type 0} {next : Steps A} {old new : Outside} {result : Result A Stop}
-    (a b : Around) → new.tapes ≡ old.tapes
+    (a b : Environment) → new.tapes ≡ old.tapes
     → Does next (with_world (with_tapes old.tapes old) a) (with_world (with_tapes old.tapes new) b)
     result
     → Does next (with_world old a) (with_world new b) result
@@ -81,7 +81,7 @@ unlent {next = next} {old} {new} {result} a b same d =
 
 -- what a bench does of equal parts is the same
 pub bench_by : {programs others : List Program} (direction : Direction) (rows : List ConfigEntry)
-    {resource path bytes r p b : List ℕ} {old new : Around} {result : Result Outcome Stop}
+    {resource path bytes r p b : List ℕ} {old new : Environment} {result : Result Outcome Stop}
     → others ≡ programs → r ≡ resource → p ≡ path → b ≡ bytes
     → Does (bench_steps others direction r p rows b) old new result
     → Does (bench_steps programs direction resource path rows bytes) old new result

@@ -11,7 +11,7 @@ use Rattle.kr_provider.specs.Exchanges.{ReadsBy}
 use Rattle.kr_provider.specs.Publication.{Publication, list_at}
 use Rattle.kr_provider.specs.declared.refusal.Opened.{Opened}
 use Rattle.kr_provider.specs.declared.refusal.UnsealNo.{UnsealNo}
-use Rattle.kr_cmd_steps.specs.Around.{Around, with_exchanges}
+use Rattle.kr_cmd_steps.specs.Environment.{Environment, with_exchanges}
 use Rattle.kr_cmd_steps.specs.Steps.{Steps}
 use Rattle.kr_cmd_steps.specs.inner.Phases.{Does}
 use Rattle.kr_cmd_messages.specs.declared.refusal.Outcome.{Outcome}
@@ -25,7 +25,7 @@ both_some P Q (Some x) p q = (p, q)
 
 -- nothing was asked
 pub none_made : (steps : List ConfigEntry → List ℕ → List SeedRow → Steps Outcome) (bytes : List ℕ)
-    (published : Option Publication) (old new : Around) (made : Result Outcome Stop)
+    (published : Option Publication) (old new : Environment) (made : Result Outcome Stop)
     → IfSome published (λ p. Does (steps p.rows bytes p.seeds) old new made)
     → IfSome published (λ p. Does (steps p.rows bytes p.seeds) old (with_exchanges [] new) made)
 none_made steps bytes None old new made d = tt

@@ -5,7 +5,7 @@ use Rattle.kr_config.specs.declared.settings.Settings.{Settings}
 use Rattle.kr_kms.specs.Calls.{Link}
 use Rattle.kr_kms.specs.Exchanges.{Exchange}
 use Rattle.kr_kms.specs.Outside.{Outside}
-use Rattle.kr_cmd_steps.specs.Around.{Around, with_exchanges, with_world}
+use Rattle.kr_cmd_steps.specs.Environment.{Environment, with_exchanges, with_world}
 use Rattle.kr_cmd_steps.specs.Heard.{Heard}
 use Rattle.kr_cmd_steps.specs.Phases.{configuration, input_of, linking_programs}
 use Rattle.kr_cmd_steps.specs.Steps.{Steps, and_then}
@@ -15,7 +15,7 @@ use Rattle.kr_cmd_steps.specs.inner.Phases.{Does, HasPrograms}
 use Rattle.kr_cmd_messages.specs.declared.command.Direction.{Direction}
 use Rattle.kr_cmd_messages.specs.declared.refusal.Outcome.{Outcome}
 use Rattle.kr_cmd_messages.specs.declared.refusal.Stop.{Stop}
-use Rattle.kr_cmd_steps.proofs.Goes.{goes_on, stops}
+use Rattle.kr_cmd_steps.proofs.RunTo.{goes_on, stops}
 use Rattle.kr_cmd_steps.proofs.HeardLinks.{nothing_does}
 use Rattle.kr_cmd_steps.proofs.Links.{LinksOf}
 
@@ -26,8 +26,8 @@ module _ (name : List ℕ) (options : List (List ℕ × List ℕ)) (old new : Ou
 
   -- they are there, and these steps do the rest
   pub configured : (settings : Settings) (programs : List Program)
-      → HasPrograms old new name options (Ok (settings, programs)) → (a : Around)
-      → {behind : Around} {result : Result Outcome Stop}
+      → HasPrograms old new name options (Ok (settings, programs)) → (a : Environment)
+      → {behind : Environment} {result : Result Outcome Stop}
       → Does (next (rows_of settings.entries.0) programs) (with_world new a) behind result
       → Does (and_then (configuration name) with_rows) (with_world old a) behind result
   configured settings programs (is, linked) a rest =
@@ -36,7 +36,7 @@ module _ (name : List ℕ) (options : List (List ℕ × List ℕ)) (old new : Ou
       (goes_on (linking_programs options rows) (next rows) programs (linked (with_world new a)) rest)
 
   -- one of the two isn't there
-  pub unconfigured : (stop : Stop) → HasPrograms old new name options (Err stop) → (a : Around)
+  pub unconfigured : (stop : Stop) → HasPrograms old new name options (Err stop) → (a : Environment)
       → Does (and_then (configuration name) with_rows) (with_world old a) (with_world new a)
       (Err stop)
   unconfigured stop (inl is) a = stops (configuration name) with_rows stop (is a)
@@ -48,7 +48,7 @@ module _ (name : List ℕ) (options : List (List ℕ × List ℕ)) (old new : Ou
   pub unconfigured_heard : {L : Type 0} (link : L → Link) (lent took : ℕ → L → Type 0)
       (step : L → Exchange → L → Type 0) → new.links ≡ old.links → (stop : Stop)
       → HasPrograms old new name options (Err stop)
-      → Heard link lent took step 0 old new [] [] (λ es. (a : Around)
+      → Heard link lent took step 0 old new [] [] (λ es. (a : Environment)
       → Does (and_then (configuration name) with_rows) (with_world old a)
       (with_world new (with_exchanges es a)) (Err stop))
   unconfigured_heard link lent took step links stop has = nothing_does link lent took step 0
@@ -68,14 +68,14 @@ module _ (name : List ℕ) (options : List (List ℕ × List ℕ)) (old new : Ou
 
   -- it was taken so far
   abbrev Takes : Option (List ℕ) → ℕ → Result (List ℕ) Stop → Type 0
-  Takes left' count' result = (a : Around) → Does (input_of direction)
+  Takes left' count' result = (a : Environment) → Does (input_of direction)
       (with_told_input left count a) (with_told_input left' count' a) result
 
   -- it is there, and these steps do the rest
   pub fed : (settings : Settings) (programs : List Program) (bytes : List ℕ)
       {left' : Option (List ℕ)} {count' : ℕ}
       → HasPrograms old new name options (Ok (settings, programs)) → Takes left' count' (Ok bytes)
-      → (a : Around) → {behind : Around} {result : Result Outcome Stop}
+      → (a : Environment) → {behind : Environment} {result : Result Outcome Stop}
       → Does (next (rows_of settings.entries.0) programs bytes)
       (with_world new (with_told_input left' count' a)) behind result
       → Does (and_then (configuration name) from_input)
@@ -89,7 +89,7 @@ module _ (name : List ℕ) (options : List (List ℕ × List ℕ)) (old new : Ou
       (step : L → Exchange → L → Type 0) (links : new.links ≡ old.links) (stop : Stop) where
     -- from there to here nothing was asked of a link
     abbrev EndsAt : Option (List ℕ) → ℕ → Type 0
-    EndsAt left' count' = Heard link lent took step 0 old new [] [] (λ es. (a : Around)
+    EndsAt left' count' = Heard link lent took step 0 old new [] [] (λ es. (a : Environment)
         → Does (and_then (configuration name) from_input)
         (with_told_input left count (with_world old a))
         (with_told_input left' count' (with_world new (with_exchanges es a))) (Err stop))

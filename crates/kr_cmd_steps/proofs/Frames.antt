@@ -9,11 +9,11 @@ use Rattle.kr_kms.specs.Outside.{same_seat}
 use Rattle.kr_provider.specs.AskedLinks.{AskedOnly, FaultRose}
 use Rattle.kr_provider.specs.Names.{AreDistinct}
 use Rattle.kr_provider.proofs.AskedLists.{distinct_stay}
-use Rattle.kr_cmd_steps.specs.Around.{Around, faults_at, IsFault, IsHome, Stays}
-use Rattle.kr_cmd_steps.specs.Steps.{Left, asking, with_dice}
+use Rattle.kr_cmd_steps.specs.Environment.{Environment, faults_at, IsFault, IsHome, IsStateOf}
+use Rattle.kr_cmd_steps.specs.Steps.{StepState, asking, with_dice}
 use Rattle.kr_cmd_messages.specs.declared.refusal.Object.TheVariants.{Plugin}
 use Rattle.kr_cmd_steps.specs.inner.Lent.{with_lent_dice, with_lent_links}
-use Rattle.kr_cmd_steps.proofs.Goes.{files_same}
+use Rattle.kr_cmd_steps.proofs.RunTo.{files_same}
 use Rattle.kr_cmd_steps.proofs.Lending.{home_behind, home_same}
 use Rattle.kr_cmd_steps.proofs.Links.{count_of, seen_asked}
 
@@ -32,18 +32,18 @@ taken : (q : Bool) (a b l d : Option (List ℕ)) → Keeps l (if q then a else d
 taken true a b l d h = Keeps-refl b
 taken false a b l d h = h
 
-module _ {L : Type 0} (link : L → Link) (a : Around) where
+module _ {L : Type 0} (link : L → Link) (a : Environment) where
   -- what is around while these links and a random source that will give these bytes are out
-  abbrev pub Seen : List L → Option (List ℕ) → ℕ → Around
+  abbrev pub Seen : List L → Option (List ℕ) → ℕ → Environment
   Seen links left count = with_lent_links link 0 links (with_lent_dice 0 left count a)
 
 -- from some links and bytes to others
-module _ {L : Type 0} (link : L → Link) (a : Around) (names : List (List ℕ)) (olds news : List L)
+module _ {L : Type 0} (link : L → Link) (a : Environment) (names : List (List ℕ)) (olds news : List L)
     (asked : AskedOnly link names olds news) (old new : Option (List ℕ)) (before count : ℕ) where
-  abbrev Before : Around
+  abbrev Before : Environment
   Before = Seen link a olds old before
 
-  abbrev After : Around
+  abbrev After : Environment
   After = Seen link a news new count
 
   pub home : before ≤ count → IsHome Before After
@@ -55,7 +55,7 @@ module _ {L : Type 0} (link : L → Link) (a : Around) (names : List (List ℕ))
     input = omega arith;
   }
 
-  pub kept : Keeps old new → (l : Left) → Stays l Before → Stays l After
+  pub kept : Keeps old new → (l : StepState) → IsStateOf l Before → IsStateOf l After
   kept k l s = record {
     file = s.file;
     tapes = s.tapes;
@@ -67,7 +67,7 @@ module _ {L : Type 0} (link : L → Link) (a : Around) (names : List (List ℕ))
     said = s.said;
   }
 
-  pub drawn : (l : Left) → Stays l Before → Stays (with_dice 0 new l) After
+  pub drawn : (l : StepState) → IsStateOf l Before → IsStateOf (with_dice 0 new l) After
   drawn l s = record {
     file = s.file;
     tapes = s.tapes;

@@ -7,11 +7,11 @@ use Rattle.kr_kms.specs.declared.plugin.Status.{Status}
 use Rattle.kr_kms.specs.declared.plugin.Wrapped.{Wrapped}
 use Rattle.kr_kms.specs.declared.world.WorldCall.TheVariants.{File, Link, RandomSource, Returned, Settled, Tape}
 use Rattle.kr_kms.specs.Outside.{makes}
-use Rattle.kr_cmd_steps.specs.Steps.{Steps, load, take_input, borrow_dice, borrow_tape, read_tape, write_row, keep_rows, settle, give_back, draw, borrow_link, ask_status, wrap, unwrap, note, find, refuse, give, and_then, Point, awaits, amid, refuses, gives, Left, Goes, loading, opening, lending, scanning, writing, settling, drawing, linking, asking, with_asked, with_dice, with_heard, with_said, with_tape, with_told}
+use Rattle.kr_cmd_steps.specs.Steps.{Steps, load, take_input, borrow_dice, borrow_tape, read_tape, write_row, keep_rows, settle, give_back, draw, borrow_link, ask_status, wrap, unwrap, note, find, refuse, give, and_then, Point, awaits, amid, refuses, gives, StepState, RunTo, loading, opening, lending, scanning, writing, settling, drawing, linking, asking, with_asked, with_dice, with_heard, with_said, with_tape, with_told}
 
 -- from what is left on, whatever they draw and find, they refuse nothing, and give this; such steps
 -- take no input
-abbrev pub GivesOnly : {A : Type 0} → (A → Left → Type 0) → Steps A → Left → Type 0
+abbrev pub GivesOnly : {A : Type 0} → (A → StepState → Type 0) → Steps A → StepState → Type 0
 GivesOnly Q (load name next) left = (bytes : Option (List ℕ)) → Agrees (left.file name) bytes
     → GivesOnly Q (next bytes) (with_asked (File name) left)
 GivesOnly Q (take_input limit long next) left = ⊥
@@ -44,20 +44,20 @@ GivesOnly Q (give x) left = Q x left
 
 -- ---- where they may end
 
-module _ {A : Type 0} (Q : A → Left → Type 0) where
-  abbrev pub Allowed : Point A → Left → Type 0
+module _ {A : Type 0} (Q : A → StepState → Type 0) where
+  abbrev pub Allowed : Point A → StepState → Type 0
   Allowed (awaits call) end = Unit {0}
   Allowed amid end = Unit {0}
   Allowed (refuses why) end = ⊥
   Allowed (gives x) end = Q x end
 
-  module _ (p : Point A) (end : Left) where
-    at : (here : Point A) (left : Left) → Allowed here left → (p ≡ here) × (end ≡ left)
+  module _ (p : Point A) (end : StepState) where
+    at : (here : Point A) (left : StepState) → Allowed here left → (p ≡ here) × (end ≡ left)
         → Allowed p end
     at here left allows e = subst (λ l. Allowed p l) (sym e.1)
         (subst (λ q. Allowed q left) (sym e.0) allows)
 
-    pub allowed : (s : Steps A) (left : Left) → GivesOnly Q s left → Goes p end s left
+    pub allowed : (s : Steps A) (left : StepState) → GivesOnly Q s left → RunTo p end s left
         → Allowed p end
     allowed (load name next) left g (inl e) = at amid _ tt e
     allowed (load name next) left g (inr (inl e)) = at (awaits (loading name)) _ tt e
@@ -121,9 +121,9 @@ module _ {A : Type 0} (Q : A → Left → Type 0) where
 
 -- ---- one behind another
 
-module _ {A B : Type 0} (R : A → Left → Type 0) (Q : B → Left → Type 0) (others : A → Steps B)
-    (go_on : (x : A) (l : Left) → R x l → GivesOnly Q (others x) l) where
-  pub gives_then : (first : Steps A) (left : Left) → GivesOnly R first left
+module _ {A B : Type 0} (R : A → StepState → Type 0) (Q : B → StepState → Type 0) (others : A → Steps B)
+    (go_on : (x : A) (l : StepState) → R x l → GivesOnly Q (others x) l) where
+  pub gives_then : (first : Steps A) (left : StepState) → GivesOnly R first left
       → GivesOnly Q (and_then first others) left
   gives_then (load name next) left g = λ bytes agrees. gives_then (next bytes) _ (g bytes agrees)
   gives_then (borrow_dice seat next) left g = gives_then next _ g

@@ -1,9 +1,9 @@
 -- Where steps end without a value: what follows them ends there too.
 use Rattle.std.proofs.Common.{refl}
-use Rattle.kr_cmd_steps.specs.Around.{Around, Reaches}
-use Rattle.kr_cmd_steps.specs.Steps.{Call, Left, Point, Steps, amid, and_then, awaits, refuses}
+use Rattle.kr_cmd_steps.specs.Environment.{Environment, StepsEndAt}
+use Rattle.kr_cmd_steps.specs.Steps.{Call, StepState, Point, Steps, amid, and_then, awaits, refuses}
 use Rattle.kr_cmd_messages.specs.declared.refusal.Refusal.{Refusal}
-use Rattle.kr_cmd_steps.proofs.Goes.{onward}
+use Rattle.kr_cmd_steps.proofs.RunTo.{onward}
 
 pub data Halt : Type 0 where
   at_call : Call → Halt
@@ -15,9 +15,9 @@ point_at (at_call call) = awaits call
 point_at lacks = amid
 point_at (declines why) = refuses why
 
-pub halts_on : {A B : Type 0} (first : Steps A) (others : A → Steps B) {left : Left} {new : Around}
-    (h : Halt) → Reaches first left new (point_at h)
-    → Reaches (and_then first others) left new (point_at h)
+pub halts_on : {A B : Type 0} (first : Steps A) (others : A → Steps B) {left : StepState} {new : Environment}
+    (h : Halt) → StepsEndAt first left new (point_at h)
+    → StepsEndAt (and_then first others) left new (point_at h)
 halts_on first others (at_call call) r = onward first others r r.end (refl, refl) r.stays
 halts_on first others lacks r = onward first others r r.end (refl, refl) r.stays
 halts_on first others (declines why) r = onward first others r r.end (refl, refl) r.stays

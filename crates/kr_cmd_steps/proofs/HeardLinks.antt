@@ -9,7 +9,7 @@ use Rattle.kr_kms.specs.Calls.{Link}
 use Rattle.kr_kms.specs.Exchanges.{Exchange}
 use Rattle.kr_kms.specs.Outside.{Outside, with_handed}
 use Rattle.kr_provider.specs.AskedLinks.{Among}
-use Rattle.kr_cmd_steps.specs.Around.{Around, with_exchanges}
+use Rattle.kr_cmd_steps.specs.Environment.{Environment, with_exchanges}
 use Rattle.kr_cmd_steps.specs.Heard.{Heard}
 use Rattle.kr_cmd_steps.specs.Steps.{Steps}
 use Rattle.kr_cmd_steps.specs.inner.Phases.{Does, LinkLoan}
@@ -147,11 +147,11 @@ module _ {L : Type 0} (link : L → Link) (lent took : ℕ → L → Type 0)
   -- steps that ask nothing
   pub nothing_does : {old new : Outside} → new.links.handed ≡ old.links.handed
       → {A : Type 0} {next : Steps A} {result : Result A Stop} (links : List L)
-      (before behind : Around → Around) → ((a : Around) → Does next (before a) (behind a) result)
+      (before behind : Environment → Environment) → ((a : Environment) → Does next (before a) (behind a) result)
       → Heard link lent took step seat old new links links
-      (λ es. (a : Around) → Does next (before a) (behind (with_exchanges es a)) result)
+      (λ es. (a : Environment) → Does next (before a) (behind (with_exchanges es a)) result)
   nothing_does same {next = next} {result} links before behind does =
       heard_nothing same links
-      (λ (es : List Exchange). (a : Around) → Does next (before a)
+      (λ (es : List Exchange). (a : Environment) → Does next (before a)
       (behind (with_exchanges es a)) result)
       (λ a. subst (λ b. Does next (before a) (behind b) result) (sym (around_none a)) (does a))

@@ -3,7 +3,7 @@ use Rattle.std.proofs.Common.{◌≡◌, ◌≢◌, ℕ, ◌≤◌, refl, sym, �
 use Rattle.std.specs.Prelude.{Bool, true, false, ◌-◌, if◌then◌else◌}
 use Rattle.std.specs.Bool.{Decides}
 use Rattle.kr_kms.specs.Outside.{Objects, HandsOut, TakesBack, at_key}
-use Rattle.kr_cmd_steps.specs.Around.{with_lent, AreHome}
+use Rattle.kr_cmd_steps.specs.Environment.{with_lent, AreHome}
 
 -- ---- keys
 

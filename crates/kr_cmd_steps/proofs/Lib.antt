@@ -8,7 +8,7 @@ pub mod EmptyFiles
 pub mod Ends
 pub mod Frames
 pub mod GivesOnly
-pub mod Goes
+pub mod RunTo
 pub mod Halts
 pub mod HeardLinks
 pub mod Hearing

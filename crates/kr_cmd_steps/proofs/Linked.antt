@@ -12,7 +12,7 @@ use Rattle.kr_kms.proofs.Lent.{links_decide}
 use Rattle.kr_provider.specs.Names.{HasLinks, names_of}
 use Rattle.kr_provider.specs.PluginOrder.{plugin_order}
 use Rattle.kr_provider.proofs.PluginOrder.{order_ascends, order_has, order_once}
-use Rattle.kr_cmd_steps.specs.Around.{Around, with_lent, with_world}
+use Rattle.kr_cmd_steps.specs.Environment.{Environment, with_lent, with_world}
 use Rattle.kr_cmd_steps.specs.Phases.{with_memory}
 use Rattle.kr_cmd_steps.specs.Plugins.{borrow_links, borrow_links_of}
 use Rattle.kr_cmd_steps.specs.Steps.{Steps, borrow_link, and_then}
@@ -22,7 +22,7 @@ use Rattle.kr_cmd_messages.specs.declared.refusal.Stop.TheVariants.{NoMemory}
 use Rattle.kr_cmd_steps.specs.inner.Lent.{lent_links, with_lent_links}
 use Rattle.kr_cmd_steps.specs.inner.Phases.{AskedUnless, Does, LendsNothing, LinkLoan, LinkReturn}
 use Rattle.kr_cmd_steps.proofs.Frames.{Seen}
-use Rattle.kr_cmd_steps.proofs.Goes.{dice_seen, home_refl, not_linked, reach}
+use Rattle.kr_cmd_steps.proofs.RunTo.{dice_seen, home_refl, not_linked, reach}
 use Rattle.kr_cmd_steps.proofs.Links.{lends_link_to, links_seen}
 use Rattle.kr_cmd_steps.proofs.NamedPrograms.{names_in}
 use Rattle.kr_cmd_steps.proofs.Works.{lacks}
@@ -98,7 +98,7 @@ module _ {L : Type 0} (link : L → Link) where
       ((order_has (plugins_in rows) name).1 c)
 
   -- without any link, around is what it was
-  pub without_links : {A : Type 0} {next : Steps A} {old new : Around} {result : Result A Stop}
+  pub without_links : {A : Type 0} {next : Steps A} {old new : Environment} {result : Result A Stop}
       (links back : List L) → links ≡ [] → names_of link back ≡ names_of link links
       → Does next (with_lent_links link 0 links old) (with_lent_links link 0 back new) result
       → Does next old new result
@@ -160,7 +160,7 @@ module _ {L : Type 0} (link : L → Link) {plugin program : List ℕ} {first out
 -- ---- steps
 
 -- memory may lack before the next link is asked for, or before the bench does anything
-pub lacks_links : {A : Type 0} (programs : List Program) (next : Steps A) (a : Around)
+pub lacks_links : {A : Type 0} (programs : List Program) (next : Steps A) (a : Environment)
     → Does (borrow_links programs (with_memory next)) a a (Err NoMemory)
 lacks_links [] next a = lacks next a
 lacks_links (program ∷ programs) next a =
@@ -194,13 +194,13 @@ return_within {seat} left count h = record {
 }
 
 -- the programs are none, or this and others
-pub at_end : {A : Type 0} (next : Steps A) {old new : Around} {result : Result A Stop}
+pub at_end : {A : Type 0} (next : Steps A) {old new : Environment} {result : Result A Stop}
     (programs : List Program) → programs ≡ [] → Does next old new result
     → Does (borrow_links programs next) old new result
 at_end next {old} {new} {result} programs none d =
     subst (λ p. Does (borrow_links p next) old new result) (sym none) d
 
-pub at_first : {A : Type 0} (next : Steps A) {old new : Around} {result : Result A Stop}
+pub at_first : {A : Type 0} (next : Steps A) {old new : Environment} {result : Result A Stop}
     (programs : List Program) (program : Program) (more : List Program) (plugin file : List ℕ)
     → programs ≡ program ∷ more → plugin ≡ program.plugin → file ≡ program.file
     → Does (borrow_link 0 plugin file (borrow_links more next)) old new result
@@ -218,9 +218,9 @@ links_then seat [] first others = refl
 links_then seat (program ∷ programs) first others =
     λ i. borrow_link seat program.plugin program.file (links_then seat programs first others i)
 
-module _ {L : Type 0} (link : L → Link) {plugin program : List ℕ} (a : Around) where
+module _ {L : Type 0} (link : L → Link) {plugin program : List ℕ} (a : Environment) where
   -- one more link is borrowed for what follows, and comes back
-  pub borrows_to : (b : Around) {A : Type 0} {next : Steps A} {result : Result A Stop}
+  pub borrows_to : (b : Environment) {A : Type 0} {next : Steps A} {result : Result A Stop}
       (olds with_old news with_new : List L) (old new : L) (left back : Option (List ℕ))
       (before count : ℕ) {first out mid last : Outside}
       → LinkLoan 0 plugin program first out (link old) → LinkReturn 0 mid last (link new)

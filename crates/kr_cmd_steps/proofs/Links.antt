@@ -12,12 +12,12 @@ use Rattle.kr_kms.specs.declared.world.WorldCall.TheVariants as calls
 use Rattle.kr_kms.proofs.Lent.{links_decide}
 use Rattle.kr_provider.specs.AskedLinks.{AskedOnly}
 use Rattle.kr_provider.specs.Names.{AreDistinct, names_of}
-use Rattle.kr_cmd_steps.specs.Around.{Around, with_world, with_lent}
+use Rattle.kr_cmd_steps.specs.Environment.{Environment, with_world, with_lent}
 use Rattle.kr_cmd_steps.specs.Steps.{Steps, borrow_link}
 use Rattle.kr_cmd_steps.specs.inner.Lent.{lent_links, with_lent_links}
 use Rattle.kr_cmd_steps.specs.inner.Phases.{Does, LinkLoan, LinkReturn}
 use Rattle.kr_cmd_messages.specs.declared.refusal.Stop.{Stop}
-use Rattle.kr_cmd_steps.proofs.Goes.{IsSeen, borrowed, goes_on, nothing, one_world}
+use Rattle.kr_cmd_steps.proofs.RunTo.{IsSeen, borrowed, goes_on, nothing, one_world}
 use Rattle.kr_cmd_steps.proofs.Lending.{AreSeen, back_is, by_key, lent_seen, no_more, seen_behind, seen_same}
 
 abbrev pub LinksOf : Type 0
@@ -75,7 +75,7 @@ module _ {L : Type 0} (link : L → Link) (seat : ℕ) where
 
 -- a link is borrowed behind others for what follows, and comes back
 pub lends_link_to : {L : Type 0} (link : L → Link) (seat : ℕ) {plugin program : List ℕ}
-    (olds news : List L) (old new : L) {first out mid back : Outside} (a b : Around) {B : Type 0}
+    (olds news : List L) (old new : L) {first out mid back : Outside} (a b : Environment) {B : Type 0}
     {next : Steps B} {result : Result B Stop}
     → LinkLoan seat plugin program first out (link old)
     → LinkReturn seat mid back (link new)

@@ -10,9 +10,9 @@ use Rattle.kr_store.specs.File.{IsFile}
 use Rattle.kr_store.specs.Stores.{Kept, Loads, HasBreach}
 use Rattle.kr_store.specs.declared.answers.StoreNo.{StoreNo}
 use Rattle.kr_store.specs.declared.answers.StoreNo.TheVariants as no
-use Rattle.kr_cmd_steps.specs.Around.{Around, Stays, Reaches, IsHome, Ends}
+use Rattle.kr_cmd_steps.specs.Environment.{Environment, IsStateOf, StepsEndAt, IsHome, Ends}
 use Rattle.kr_cmd_steps.specs.Phases.{stored_on}
-use Rattle.kr_cmd_steps.specs.Steps.{Steps, scanning, Point, awaits, Left, with_told}
+use Rattle.kr_cmd_steps.specs.Steps.{Steps, scanning, Point, awaits, StepState, with_told}
 use Rattle.kr_cmd_steps.specs.StoreFiles.{Stored, IsStored, store_no}
 use Rattle.kr_cmd_steps.specs.inner.Lent.{with_lent_tape}
 use Rattle.kr_cmd_steps.specs.inner.Phases.{Does}
@@ -24,7 +24,7 @@ use Rattle.kr_cmd_messages.specs.declared.refusal.Object.{Object}
 use Rattle.kr_cmd_messages.specs.declared.refusal.Refusal.{Refusal}
 use Rattle.kr_cmd_messages.specs.declared.refusal.Refusal.TheVariants.{Limit, Broken}
 use Rattle.kr_cmd_messages.specs.declared.refusal.Stop.{Stop}
-use Rattle.kr_cmd_steps.proofs.Goes.{reach, by_point, by_goes, files_same, stays_as}
+use Rattle.kr_cmd_steps.proofs.RunTo.{reach, by_point, by_goes, files_same, stays_as}
 use Rattle.kr_cmd_steps.proofs.Lending.{home_same}
 use Rattle.kr_cmd_steps.proofs.Tapes.{one_of, own_name}
 use Rattle.std.proofs.Math.Nat.{eq-or-lt_of_le}
@@ -60,23 +60,23 @@ told_so name told now old left e = λ i other. one_of (same_name name other) (op
     (old other) (option_map Some now) (left other) refl
     (λ f. sym (ap (λ q. if q then option_map Some told else old other) f) ∙ ap (λ t. t other) e) i
 
-module _ (name : List ℕ) (told : Option (List ℕ)) (before : ℕ) (a : Around) where
-  abbrev Lent : ℕ → Around
+module _ (name : List ℕ) (told : Option (List ℕ)) (before : ℕ) (a : Environment) where
+  abbrev Lent : ℕ → Environment
   Lent count = with_lent_tape name told count a
 
   -- what is told of the tape
-  pub tape_here : {left : Left} → Stays left (Lent before) → left.tapes name ≡ option_map Some told
+  pub tape_here : {left : StepState} → IsStateOf left (Lent before) → left.tapes name ≡ option_map Some told
   tape_here s = sym (ap (λ t. t name) s.tapes)
       ∙ ap (λ q. if q then option_map Some told else a.world.tapes.told name) (own_name name)
 
-  pub counted_tape : {left : Left} (count : ℕ) → before ≤ count → Stays left (Lent before)
-      → Stays left (Lent count)
+  pub counted_tape : {left : StepState} (count : ℕ) → before ≤ count → IsStateOf left (Lent before)
+      → IsStateOf left (Lent count)
   counted_tape count later s = stays_as s refl refl s.tapes s.asked s.heard s.said
 
   -- it tells something else
-  pub retold : {left : Left} (now : Option (List ℕ)) (count : ℕ) → before ≤ count
-      → Stays left (Lent before)
-      → Stays (with_told name now left) (with_lent_tape name now count a)
+  pub retold : {left : StepState} (now : Option (List ℕ)) (count : ℕ) → before ≤ count
+      → IsStateOf left (Lent before)
+      → IsStateOf (with_told name now left) (with_lent_tape name now count a)
   retold {left} now count later s = stays_as s refl refl
       (told_so name told now a.world.tapes.told left.tapes s.tapes) s.asked s.heard s.said
 
@@ -105,9 +105,9 @@ module _ (name : List ℕ) (told : Option (List ℕ)) (before : ℕ) (a : Around
       (sym (count_here before)) (subst (λ y. Rose before y) (sym (count_here count)) r)
 
   module _ (object : Object) where
-    scans : {left : Left} (bytes : List ℕ) (count : ℕ) (read : Result Stored Refusal)
-        → before ≤ count → Agrees told bytes → IsStored bytes read → Stays left (Lent before)
-        → Reaches (stored_on object name) left (Lent count) (by_point read)
+    scans : {left : StepState} (bytes : List ℕ) (count : ℕ) (read : Result Stored Refusal)
+        → before ≤ count → Agrees told bytes → IsStored bytes read → IsStateOf left (Lent before)
+        → StepsEndAt (stored_on object name) left (Lent count) (by_point read)
     scans {left} bytes count read later is reads s = reach left (inr (
       bytes,
       subst (λ t. Agrees t (Some bytes)) (sym (tape_here s)) (agrees_there told bytes is),
@@ -115,21 +115,21 @@ module _ (name : List ℕ) (told : Option (List ℕ)) (before : ℕ) (a : Around
     ))
         (counted_tape count later s)
 
-    not_scanned : {left : Left} (count : ℕ) → before ≤ count → Stays left (Lent before)
-        → Reaches (stored_on object name) left (Lent count) (awaits (scanning object name))
+    not_scanned : {left : StepState} (count : ℕ) → before ≤ count → IsStateOf left (Lent before)
+        → StepsEndAt (stored_on object name) left (Lent count) (awaits (scanning object name))
     not_scanned {left} count later s =
         reach left (inl (refl, refl)) (counted_tape count later s)
 
-    breaks : (count : ℕ) → before ≤ count → (broken : Breach) {left : Left}
-        → Stays left (Lent before)
+    breaks : (count : ℕ) → before ≤ count → (broken : Breach) {left : StepState}
+        → IsStateOf left (Lent before)
         → HasBreach told store_limit (store_no broken)
-        → Reaches (stored_on object name) left (Lent count) (Point.refuses (Broken broken))
+        → StepsEndAt (stored_on object name) left (Lent count) (Point.refuses (Broken broken))
     breaks count later broken s (bytes, is, short, first) =
         scans bytes count (Err (Broken broken)) later is (inr (short, broken, first, refl)) s
 
     module _ {T : Type 0} (tape : T) where
-      refuses_at : (count : ℕ) → before ≤ count → (why : StoreNo) {left : Left}
-          → Stays left (Lent before)
+      refuses_at : (count : ℕ) → before ≤ count → (why : StoreNo) {left : StepState}
+          → IsStateOf left (Lent before)
           → Loads told store_limit (Err (why, tape)) → (why ≡ no.Failed → Rose before count)
           → Ends (stored_on object name) left (Lent before) (Lent count)
           (Err (load_stop object count why))
@@ -172,7 +172,7 @@ module _ (name : List ℕ) (told : Option (List ℕ)) (before : ℕ) (a : Around
         })
 
 -- a store that is closed gives the tape back as it is
-pub as_closed : {A : Type 0} (next : Steps A) (name : List ℕ) (a old : Around)
+pub as_closed : {A : Type 0} (next : Steps A) (name : List ℕ) (a old : Environment)
     {told back : Option (List ℕ)} {count last : ℕ} {result : Result A Stop} → back ≡ told
     → last ≡ count → Does next old (with_lent_tape name told count a) result
     → Does next old (with_lent_tape name back last a) result

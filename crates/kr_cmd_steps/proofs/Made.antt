@@ -6,7 +6,7 @@ use Rattle.kr_kms.specs.Calls.{Link}
 use Rattle.kr_kms.specs.declared.seeds.SeedRow.{SeedRow}
 use Rattle.kr_provider.specs.PluginOrder.{plugin_order}
 use Rattle.kr_provider.specs.Publication.{Publication}
-use Rattle.kr_cmd_steps.specs.Around.{Around}
+use Rattle.kr_cmd_steps.specs.Environment.{Environment}
 use Rattle.kr_cmd_steps.specs.Phases.{with_memory}
 use Rattle.kr_cmd_steps.specs.ValueSteps.{working, working_by}
 use Rattle.kr_cmd_steps.specs.Plugins.{make_seeds}
@@ -18,18 +18,18 @@ use Rattle.kr_cmd_messages.specs.declared.refusal.Stop.{Stop}
 use Rattle.kr_cmd_messages.specs.declared.refusal.Stop.TheVariants.{NoMemory}
 use Rattle.kr_cmd_steps.specs.inner.Phases.{Does}
 use Rattle.kr_cmd_steps.proofs.Frames.{Seen}
-use Rattle.kr_cmd_steps.proofs.Goes.{goes_on, home_refl, nothing, reach, stops}
+use Rattle.kr_cmd_steps.proofs.RunTo.{goes_on, home_refl, nothing, reach, stops}
 use Rattle.kr_cmd_steps.proofs.Works.{lacks}
 
 -- there was memory
-pub remembers : {A : Type 0} {next : Steps A} {old new : Around} {result : Result A Stop}
+pub remembers : {A : Type 0} {next : Steps A} {old new : Environment} {result : Result A Stop}
     → Does next old new result → Does (with_memory next) old new result
 remembers {next = next} {old} d = goes_on (with_memory nothing) (λ u. next) tt
     (record { home = home_refl old; ends = λ l s. reach l (inr (tt, tt, (refl, refl))) s }) d
 
 -- seeds are made for rows that are known to be these, and then what follows
 module _ {A : Type 0} (next : List SeedRow → Steps A) {others rows : List ConfigEntry}
-    (same : others ≡ rows) {old mid : Around} where
+    (same : others ≡ rows) {old mid : Environment} where
   seeds_by : {result : Result (List SeedRow) Stop}
       → Does (make_seeds (plugin_order others)) old mid result
       → Does (make_seeds (plugin_order rows)) old mid result
@@ -39,7 +39,7 @@ module _ {A : Type 0} (next : List SeedRow → Steps A) {others rows : List Conf
       → Does (with_memory (and_then (make_seeds (plugin_order rows)) next)) old mid (Err stop)
   unseeded stop d = remembers (stops (make_seeds (plugin_order rows)) next stop (seeds_by d))
 
-  pub seeded : {new : Around} {result : Result A Stop} (seeds : List SeedRow)
+  pub seeded : {new : Environment} {result : Result A Stop} (seeds : List SeedRow)
       → Does (make_seeds (plugin_order others)) old mid (Ok seeds)
       → Does (next seeds) mid new result
       → Does (with_memory (and_then (make_seeds (plugin_order rows)) next)) old new result
@@ -47,28 +47,28 @@ module _ {A : Type 0} (next : List SeedRow → Steps A) {others rows : List Conf
       remembers (goes_on (make_seeds (plugin_order rows)) next seeds (seeds_by d) e)
 
 module _ (direction : Direction) (resource path : List ℕ) (rows : List ConfigEntry) (bytes : List ℕ) where
-  abbrev Working : Around → Around → Result Outcome Stop → Type 0
+  abbrev Working : Environment → Environment → Result Outcome Stop → Type 0
   Working old new result = Does (working direction resource path rows bytes) old new result
 
   abbrev next : List SeedRow → Steps Outcome
   next seeds = working_by direction resource path rows bytes seeds
 
-  pub unmade : (a : Around) → Working a a (Err NoMemory)
+  pub unmade : (a : Environment) → Working a a (Err NoMemory)
   unmade a = lacks (and_then (make_seeds (plugin_order rows)) next) a
 
-  module _ {others : List ConfigEntry} (same : others ≡ rows) {old mid : Around} where
+  module _ {others : List ConfigEntry} (same : others ≡ rows) {old mid : Environment} where
     pub unpublished : (stop : Stop) → Does (make_seeds (plugin_order others)) old mid (Err stop)
         → Working old mid (Err stop)
     unpublished stop d = unseeded next same stop d
 
-    passed_on : {new : Around} {result : Result Outcome Stop} (seeds : List SeedRow)
+    passed_on : {new : Environment} {result : Result Outcome Stop} (seeds : List SeedRow)
         → Does (make_seeds (plugin_order others)) old mid (Ok seeds)
         → Does (next seeds) mid new result → Working old new result
     passed_on seeds d e = seeded next same seeds d e
 
 -- memory lacked before the bench did anything
 lacks_work : (direction : Direction) (resource path : List ℕ) (rows : List ConfigEntry) (bytes : List ℕ)
-    (seeds : List SeedRow) (a : Around)
+    (seeds : List SeedRow) (a : Environment)
     → Does (working_by direction resource path rows bytes seeds) a a (Err NoMemory)
 lacks_work Encrypt resource path rows bytes seeds a =
     record { home = home_refl a; ends = λ l s. inr (reach l (inl (refl, refl)) s) }
@@ -77,8 +77,8 @@ lacks_work Decrypt resource path rows bytes seeds a =
 
 module _ {L D : Type 0} (link : L → Link) (left : D → Option (List ℕ)) (count : D → ℕ)
     (direction : Direction) (resource path : List ℕ) (rows others : List ConfigEntry) (bytes : List ℕ)
-    (same : others ≡ rows) (olds mids : List L) (old mid : D) (a b : Around) where
-  abbrev With : Around → List L → D → Around
+    (same : others ≡ rows) (olds mids : List L) (old mid : D) (a b : Environment) where
+  abbrev With : Environment → List L → D → Environment
   With around links dice = Seen link around links (left dice) (count dice)
 
   -- what wasn't adopted is back
@@ -96,7 +96,7 @@ module _ {L D : Type 0} (link : L → Link) (left : D → Option (List ℕ)) (co
       (lacks_work direction resource path rows bytes seeds (With b mids mid))))
 
   -- a bench adopted the publication, and made that
-  pub made_by : (c : Around) (p : Publication) (published : Option Publication)
+  pub made_by : (c : Environment) (p : Publication) (published : Option Publication)
       (benched back : List L) (held dice : D) (made : Result Outcome Stop)
       → published ≡ Some p → p.rows ≡ others → benched ≡ mids → held ≡ mid
       → Does (make_seeds (plugin_order others)) (With a olds old) (With b mids mid) (Ok p.seeds)

@@ -11,17 +11,17 @@ use Rattle.kr_provider.specs.PluginOrder.{plugin_order}
 use Rattle.kr_provider.proofs.NameOrder.{IsStrictlySortedBy-none, ascend_more, before_next, comes_earlier, is_less, neither, none_between, not_itself, then_before, to_false}
 use Rattle.kr_provider.proofs.PluginNames.{names_some}
 use Rattle.kr_provider.proofs.PluginOrder.{one_order, order_ascends, order_before, order_has}
-use Rattle.kr_cmd_steps.specs.Around.{Around, Reaches, Stays}
+use Rattle.kr_cmd_steps.specs.Environment.{Environment, StepsEndAt, IsStateOf}
 use Rattle.kr_cmd_steps.specs.Phases.{by_result, linking_programs}
 use Rattle.kr_cmd_steps.specs.Plugins.{join_program, settings_programs}
-use Rattle.kr_cmd_steps.specs.Steps.{Goes, Left, Point, gives, refuses}
+use Rattle.kr_cmd_steps.specs.Steps.{RunTo, StepState, Point, gives, refuses}
 use Rattle.kr_cmd_steps.specs.declared.programs.Program.{Program}
 use Rattle.kr_cmd_messages.specs.declared.refusal.Refusal.{Refusal}
 use Rattle.kr_cmd_messages.specs.declared.refusal.Refusal.TheVariants.{NoPlugin}
 use Rattle.kr_cmd_messages.specs.declared.refusal.Stop.{Stop}
 use Rattle.kr_cmd_messages.specs.declared.refusal.Stop.TheVariants.{NoMemory, Refused}
 use Rattle.kr_cmd_steps.specs.inner.Phases.{Does}
-use Rattle.kr_cmd_steps.proofs.Goes.{home_refl, reach}
+use Rattle.kr_cmd_steps.proofs.RunTo.{home_refl, reach}
 use Rattle.kr_cmd_steps.proofs.Works.{lacks}
 
 -- ---- the names that were passed
@@ -192,18 +192,18 @@ abbrev end_point : Result (List Program) Refusal → Point (List Program)
 end_point (Ok programs) = gives programs
 end_point (Err why) = refuses why
 
-module _ (options : List (List ℕ × List ℕ)) (rows : List ConfigEntry) (a : Around) where
-  by_goes : (r : Result (List Program) Refusal) (l : Left)
-      → Goes (end_point r) l (by_result r) l
+module _ (options : List (List ℕ × List ℕ)) (rows : List ConfigEntry) (a : Environment) where
+  by_goes : (r : Result (List Program) Refusal) (l : StepState)
+      → RunTo (end_point r) l (by_result r) l
   by_goes (Ok programs) l = (refl, refl)
   by_goes (Err why) l = (refl, refl)
 
   comes : (r : Result (List Program) Refusal) → settings_programs options (plugin_order rows) ≡ r
-      → (l : Left) → Stays l a → Reaches (linking_programs options rows) l a (end_point r)
+      → (l : StepState) → IsStateOf l a → StepsEndAt (linking_programs options rows) l a (end_point r)
   comes r is l s = reach l (inr (
     tt,
     tt,
-    subst (λ q. Goes (end_point r) l (by_result q) l) (sym is)
+    subst (λ q. RunTo (end_point r) l (by_result q) l) (sym is)
         (by_goes r l),
   )) s
 

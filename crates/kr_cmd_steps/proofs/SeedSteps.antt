@@ -27,9 +27,9 @@ use Rattle.kr_provider.specs.Publishing.{Publishes}
 use Rattle.kr_provider.specs.declared.refusal.PublishNo.{PublishNo}
 use Rattle.kr_provider.specs.declared.refusal.PublishNo.TheVariants as publishing
 use Rattle.kr_provider.proofs.AskedLists.{asked_none}
-use Rattle.kr_cmd_steps.specs.Around.{Around, Ends, IsHome, Reaches, Stays, with_exchanges}
+use Rattle.kr_cmd_steps.specs.Environment.{Environment, Ends, IsHome, StepsEndAt, IsStateOf, with_exchanges}
 use Rattle.kr_cmd_steps.specs.Plugins.{make_seed, make_seeds, unless_breach, wrap_seed}
-use Rattle.kr_cmd_steps.specs.Steps.{Steps, Goes, Left, Point, and_then, asking, awaits, drawing, give, gives, hearing, instead, with_dice, with_heard}
+use Rattle.kr_cmd_steps.specs.Steps.{Steps, RunTo, StepState, Point, and_then, asking, awaits, drawing, give, gives, hearing, instead, with_dice, with_heard}
 use Rattle.kr_base.specs.Visible.{visible}
 use Rattle.kr_cmd_messages.specs.declared.refusal.Refusal.TheVariants.{Unhealthy}
 use Rattle.kr_cmd_messages.specs.declared.refusal.Stop.{Stop}
@@ -37,7 +37,7 @@ use Rattle.kr_cmd_messages.specs.declared.refusal.Stop.TheVariants.{NoMemory}
 use Rattle.kr_cmd_steps.specs.inner.Phases.{Does}
 use Rattle.kr_cmd_steps.specs.inner.Plugins.{IsPublishStop, NamesAFailure}
 use Rattle.kr_cmd_steps.proofs.Frames.{Seen, drawn, home, kept, plugin_fault}
-use Rattle.kr_cmd_steps.proofs.Goes.{consumes_by, joins, reach}
+use Rattle.kr_cmd_steps.proofs.RunTo.{consumes_by, joins, reach}
 use Rattle.kr_cmd_steps.proofs.Halts.{Halt, at_call, declines, halts_on, lacks, point_at}
 use Rattle.kr_cmd_steps.proofs.Hearing.{around_more, heard_more, heard_none, home_heard, stays_heard}
 use Rattle.kr_cmd_steps.proofs.Links.{named_there}
@@ -89,26 +89,26 @@ same_behind (name ∷ front) behind others e = same_behind front behind others c
 
 module _ {L D : Type 0} (link : L → Link) (left : D → Option (List ℕ))
     (count : D → ℕ) (links : List L) where
-  abbrev Here : Around → D → Around
+  abbrev Here : Environment → D → Environment
   Here a dice = Seen link a links (left dice) (count dice)
 
   same : AskedOnly link [] links links
   same = asked_none link [] links
 
-  abbrev Told : Around → List Exchange → Type 0
+  abbrev Told : Environment → List Exchange → Type 0
   Told a es = TellAll (status_in link links a.world.links) es
 
-  module _ (a : Around) (name : List ℕ) (dice : D) (l : Left)
-      (s : Stays l (Here a dice)) where
+  module _ (a : Environment) (name : List ℕ) (dice : D) (l : StepState)
+      (s : IsStateOf l (Here a dice)) where
     kept_so : (after : D) (es : List Exchange) (heard : Option (List Exchange))
         → Keeps (left dice) (left after) → hearing es l.heard ≡ heard
-        → Stays (record l { heard = heard }) (with_exchanges es (Here a after))
+        → IsStateOf (record l { heard = heard }) (with_exchanges es (Here a after))
     kept_so after es heard k is = stays_heard {left = l} es heard is (kept link a [] links links same
         (left dice) (left after) (count dice) (count after) k l s)
 
     drawn_so : (after : D) (es : List Exchange) (heard : Option (List Exchange))
         → hearing es l.heard ≡ heard
-        → Stays (record (with_dice 0 (left after) l) { heard = heard })
+        → IsStateOf (record (with_dice 0 (left after) l) { heard = heard })
         (with_exchanges es (Here a after))
     drawn_so after es heard is = stays_heard {left = with_dice 0 (left after) l} es heard is
         (drawn link a [] links links same (left dice) (left after) (count dice) (count after) l s)
@@ -123,19 +123,19 @@ module _ {L D : Type 0} (link : L → Link) (left : D → Option (List ℕ))
     drawn_bytes seed after d =
         consumes_by seed (l.dice 0) (left dice) (left after) (s.dice 0) d.1
 
-    abbrev Asked : Status → Left
+    abbrev Asked : Status → StepState
     Asked status = with_heard (StatusCall name (Ok status)) l
 
     -- the status was answered
     answered : (status : Status) (breach : Option (Field × List ℕ)) {point : Point SeedRow}
-        {end : Left} → Agrees (status_in link links a.world.links name) status
+        {end : StepState} → Agrees (status_in link links a.world.links name) status
         → breach_in status ≡ breach
-        → Goes point end (unless_breach name breach (wrap_seed name)) (Asked status)
-        → Goes point end (make_seed name) l
+        → RunTo point end (unless_breach name breach (wrap_seed name)) (Asked status)
+        → RunTo point end (make_seed name) l
     answered status breach {point} {end} h is goes = inr (inr (inr (
       status,
       agrees status h,
-      subst (λ b. Goes point end (unless_breach name b (wrap_seed name)) (Asked status)) (sym is)
+      subst (λ b. RunTo point end (unless_breach name b (wrap_seed name)) (Asked status)) (sym is)
           goes,
     )))
 
@@ -146,13 +146,13 @@ module _ {L D : Type 0} (link : L → Link) (left : D → Option (List ℕ))
     -- what was drawn was wrapped, or wasn't
     module _ (status : Status) (seed : List ℕ) (after : D) (draws : Draws left count dice seed after)
       where
-        abbrev Drawn : Left
+        abbrev Drawn : StepState
         Drawn = with_dice 0 (left after) (Asked status)
 
-        abbrev Behind : Exchange → Left
+        abbrev Behind : Exchange → StepState
         Behind e = with_heard e Drawn
 
-        wrapped_so : (e : Exchange) → Stays (Behind e)
+        wrapped_so : (e : Exchange) → IsStateOf (Behind e)
             (with_exchanges (StatusCall name (Ok status) ∷ e ∷ []) (Here a after))
         wrapped_so e = drawn_so after (StatusCall name (Ok status) ∷ e ∷ [])
             (hearing (e ∷ []) (hearing (StatusCall name (Ok status) ∷ []) l.heard))
@@ -162,7 +162,7 @@ module _ {L D : Type 0} (link : L → Link) (left : D → Option (List ℕ))
 
     one_made : (row : SeedRow) (after : D) (es : List Exchange)
         → MakesSeedBy left count name dice (Ok row) after es → Told a es
-        → Reaches (make_seed name) l (with_exchanges es (Here a after)) (gives row)
+        → StepsEndAt (make_seed name) l (with_exchanges es (Here a after)) (gives row)
     one_made row after _ (no_status why is stays) told = absurd (cc)
     one_made row after _ (unhealthy status field text breach is stays) told = absurd (cc)
     one_made row after _ (no_memory status healthy is stays) told = absurd (cc)
@@ -184,7 +184,7 @@ module _ {L D : Type 0} (link : L → Link) (left : D → Option (List ℕ))
 
     abbrev Halts : D → List Exchange → Halt → Type 0
     Halts after es h =
-        Reaches (make_seed name) l (with_exchanges es (Here a after)) (point_at h)
+        StepsEndAt (make_seed name) l (with_exchanges es (Here a after)) (point_at h)
 
     none_drawn : (after : D) → after ≡ dice → Keeps (left dice) (left after)
     none_drawn after is = subst (λ d. Keeps (left dice) (left d)) (sym is) (Keeps-refl (left dice))
@@ -305,13 +305,13 @@ module _ {L D : Type 0} (link : L → Link) (left : D → Option (List ℕ))
   others names row = and_then (make_seeds names) (λ rows. give (row ∷ rows))
 
   -- what the steps of these plugins come to
-  abbrev Comes : List (List ℕ) → (old new : Around) → Result (List SeedRow) PublishNo → Type 0
+  abbrev Comes : List (List ℕ) → (old new : Environment) → Result (List SeedRow) PublishNo → Type 0
   Comes names old new (Ok rows) =
-      (l : Left) → Stays l old → Reaches (make_seeds names) l new (gives rows)
-  Comes names old new (Err why) = (h : Halt) → MayHalt why h → (l : Left) → Stays l old
-      → Reaches (make_seeds names) l new (point_at h)
+      (l : StepState) → IsStateOf l old → StepsEndAt (make_seeds names) l new (gives rows)
+  Comes names old new (Err why) = (h : Halt) → MayHalt why h → (l : StepState) → IsStateOf l old
+      → StepsEndAt (make_seeds names) l new (point_at h)
 
-  module _ (a : Around) (name : List ℕ) (names : List (List ℕ))
+  module _ (a : Environment) (name : List ℕ) (names : List (List ℕ))
       (dice after : D) (es : List Exchange) (told : Told a es) where
     -- the first makes none
     first_halts : (why : SeedNo) (refusal : PublishNo)
@@ -320,10 +320,10 @@ module _ {L D : Type 0} (link : L → Link) (left : D → Option (List ℕ))
     first_halts why refusal makes is h may l s =
         halts_on (make_seed name) (others names) h
         (elim (by_refusal name h why refusal is may) [
-          | inl e ↦ subst (λ k. Reaches (make_seed name) l (with_exchanges es (Here a after))
+          | inl e ↦ subst (λ k. StepsEndAt (make_seed name) l (with_exchanges es (Here a after))
               (point_at k)) (sym e)
               (one_halts a name dice l s why after es makes told)
-          | inr e ↦ subst (λ k. Reaches (make_seed name) l (with_exchanges es (Here a after))
+          | inr e ↦ subst (λ k. StepsEndAt (make_seed name) l (with_exchanges es (Here a after))
               (point_at k)) (sym e.0)
               (one_lacks a name dice l s (Err why) after es
               (λ q. e.1 cc) makes told)
@@ -335,13 +335,13 @@ module _ {L D : Type 0} (link : L → Link) (left : D → Option (List ℕ))
         (Err publishing.NoMemory)
     first_lacks row makes h is l s =
         halts_on (make_seed name) (others names) h
-        (subst (λ k. Reaches (make_seed name) l (with_exchanges es (Here a after)) (point_at k))
+        (subst (λ k. StepsEndAt (make_seed name) l (with_exchanges es (Here a after)) (point_at k))
         (sym is) (one_lacks a name dice l s (Ok row) after es (λ q. absurd (cc)) makes
         told))
 
     -- or with which the others go on
     first_made : (row : SeedRow) → MakesSeedBy left count name dice (Ok row) after es
-        → (new : Around) (result : Result (List SeedRow) PublishNo)
+        → (new : Environment) (result : Result (List SeedRow) PublishNo)
         → Comes names (with_exchanges es (Here a after)) new result
         → Comes (name ∷ names) (Here a dice) new (with_seed_first row result)
     first_made row makes new (Ok rows) more = λ l s.
@@ -356,7 +356,7 @@ module _ {L D : Type 0} (link : L → Link) (left : D → Option (List ℕ))
         (halts_on (make_seeds names) (λ rows. give (row ∷ rows)) h (more h may r.end r.stays))
 
   module _ (rows : List ConfigEntry) where
-    pub seeds_come : (a : Around) → (passed : List ℕ) (dice : D)
+    pub seeds_come : (a : Environment) → (passed : List ℕ) (dice : D)
         (result : Result (List SeedRow) PublishNo) (after : D) (es : List Exchange)
         → MakesSeedsBy left count (plugins_in rows) passed dice result after es
         → (front behind : List (List ℕ)) → ArePassed rows passed front
@@ -401,13 +401,13 @@ module _ {L D : Type 0} (link : L → Link) (left : D → Option (List ℕ))
 
 module _ {L D : Type 0} (link : L → Link) (left : D → Option (List ℕ))
     (count : D → ℕ) (rows : List ConfigEntry) (kept_rows : IsTrue (keeps rows)) (olds news : List L)
-    (old new : D) (a : Around) (distinct : AreDistinct link olds)
+    (old new : D) (a : Environment) (distinct : AreDistinct link olds)
     (asks : AskedOnly link (plugins_in rows) olds news) (later : count old ≤ count new)
     (es : List Exchange) (told : TellAll (status_in link olds a.world.links) es) where
-  abbrev Before : Around
+  abbrev Before : Environment
   Before = Seen link a olds (left old) (count old)
 
-  abbrev After : Around
+  abbrev After : Environment
   After = with_exchanges es (Seen link a news (left new) (count new))
 
   to_after : IsHome Before After
@@ -415,8 +415,8 @@ module _ {L D : Type 0} (link : L → Link) (left : D → Option (List ℕ))
       (count old) (count new) later)
 
   -- what is told of the links stays
-  at_after : (l : Left) → Stays l (with_exchanges es (Seen link a olds (left new) (count new)))
-      → Stays l After
+  at_after : (l : StepState) → IsStateOf l (with_exchanges es (Seen link a olds (left new) (count new)))
+      → IsStateOf l After
   at_after l s = kept link (with_exchanges es a) (plugins_in rows) olds news asks (left new)
       (left new) (count new) (count new) (Keeps-refl (left new)) l s
 
@@ -437,14 +437,14 @@ module _ {L D : Type 0} (link : L → Link) (left : D → Option (List ℕ))
   }
 
   halted : (why : PublishNo) → PublishesBy left count rows old (Err why) new es → (h : Halt)
-      → MayHalt why h → (l : Left) → Stays l Before
-      → Reaches (make_seeds (plugin_order rows)) l After (point_at h)
+      → MayHalt why h → (l : StepState) → IsStateOf l Before
+      → StepsEndAt (make_seeds (plugin_order rows)) l After (point_at h)
   halted why makes h may l s =
       let r = come (Err why) makes h may l s in reach r.end r.goes (at_after r.end r.stays)
 
   ends_so : (why : PublishNo) (stop : Stop) → PublishesBy left count rows old (Err why) new es
       → Publishes link left count rows olds old (Err why) news new
-      → IsPublishStop link news (count new) why stop → (l : Left) → Stays l Before
+      → IsPublishStop link news (count new) why stop → (l : StepState) → IsStateOf l Before
       → Ends (make_seeds (plugin_order rows)) l Before After (Err stop)
   ends_so (publishing.PluginFailed name) stop makes p h l s =
       subst (λ w. Ends (make_seeds (plugin_order rows)) l Before After (Err w)) (sym h.has) (

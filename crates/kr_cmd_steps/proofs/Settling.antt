@@ -4,7 +4,7 @@ use Rattle.kr_base.specs.Faults.{Rose}
 use Rattle.kr_kms.specs.Outside.{Outside, at_key, same_name}
 use Rattle.kr_kms.specs.declared.world.WorldCall.TheVariants.{Settled}
 use Rattle.kr_kms.specs.declared.world.Access.{Access}
-use Rattle.kr_cmd_steps.specs.Around.{Around, with_world}
+use Rattle.kr_cmd_steps.specs.Environment.{Environment, with_world}
 use Rattle.kr_cmd_steps.specs.Phases.{settled_for}
 use Rattle.kr_cmd_steps.specs.Steps.{Steps, and_then, give, settle, settling}
 use Rattle.kr_cmd_steps.specs.inner.Lent.{with_lent_tape}
@@ -13,7 +13,7 @@ use Rattle.kr_cmd_steps.specs.inner.Tapes.{LentTape, ReturnsSettled, with_settle
 use Rattle.kr_cmd_messages.specs.declared.refusal.Object.{Object}
 use Rattle.kr_cmd_messages.specs.declared.refusal.Stop.{Stop}
 use Rattle.kr_cmd_messages.specs.declared.refusal.Stop.TheVariants.{Fault}
-use Rattle.kr_cmd_steps.proofs.Goes.{asks_alone, goes_on, reach, stops}
+use Rattle.kr_cmd_steps.proofs.RunTo.{asks_alone, goes_on, reach, stops}
 use Rattle.kr_cmd_steps.proofs.Loading.{count_here, counted_tape, tape_home, tape_rose}
 use Rattle.kr_cmd_steps.proofs.Tapes.{lends_tape_to}
 
@@ -23,13 +23,13 @@ rose_later before now (inr (x, y)) = omega (arith, x, y)
 
 module _ (object : Object) (name : List ℕ) (told : Option (List ℕ)) (count : ℕ) {A : Type 0}
     (made : A) where
-  pub is_settled : (world : Outside) (a : Around) → Does (settle object name (give made))
+  pub is_settled : (world : Outside) (a : Environment) → Does (settle object name (give made))
       (with_lent_tape name told count (with_world world a))
       (with_lent_tape name told count (with_world (with_settled name world) a)) (Ok made)
   is_settled world a = asks_alone (Settled name) (λ left. inr (refl, refl))
       (with_lent_tape name told count (with_world world a))
 
-  pub not_settled : (a : Around) (later : ℕ) → Rose count later
+  pub not_settled : (a : Environment) (later : ℕ) → Rose count later
       → Does (settle object name (give made)) (with_lent_tape name told count a)
       (with_lent_tape name told later a) (Err (Fault object later))
   not_settled a later rose = record {
@@ -46,7 +46,7 @@ module _ (object : Object) (name : List ℕ) (told : Option (List ℕ)) (count :
 module _ (object : Object) (name : List ℕ) (access : Access) {old out : Outside}
     {given : Option (List ℕ)} {first : ℕ} (mid new : Outside) (back : Option (List ℕ)) (count : ℕ)
   where
-    pub lends_settled_to : (a b : Around) {A : Type 0} (next : Steps A) (made result : Result A Stop)
+    pub lends_settled_to : (a b : Environment) {A : Type 0} (next : Steps A) (made result : Result A Stop)
         → LentTape name access old out given first
         → ReturnsSettled name object mid new back count made result
         → Does next (with_lent_tape name given first (with_world out a))
@@ -70,7 +70,7 @@ module _ (object : Object) (name : List ℕ) (access : Access) {old out : Outsid
         (lends_tape_to name access a b {next = and_then next (λ made. settle object name (give made))} h
         returned (stops next (λ made. settle object name (give made)) why works))
 
-    pub lends_settled : (a : Around) {A : Type 0} (next : Steps A) (made result : Result A Stop)
+    pub lends_settled : (a : Environment) {A : Type 0} (next : Steps A) (made result : Result A Stop)
         → LentTape name access old out given first
         → ReturnsSettled name object mid new back count made result
         → Does next (with_lent_tape name given first (with_world out a))

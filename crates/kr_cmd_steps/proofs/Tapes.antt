@@ -9,16 +9,16 @@ use Rattle.kr_kms.specs.Outside.{Outside, Objects, with_call, same_name, HandsOu
 use Rattle.kr_kms.specs.declared.world.WorldCall.TheVariants.{Tape}
 use Rattle.kr_kms.proofs.Lent.{names_decide}
 use Rattle.kr_kms.specs.declared.world.Access.{Access}
-use Rattle.kr_cmd_steps.specs.Around.{Around, with_world, with_lent, Stays, Reaches}
+use Rattle.kr_cmd_steps.specs.Environment.{Environment, with_world, with_lent, IsStateOf, StepsEndAt}
 use Rattle.kr_cmd_steps.specs.Phases.{tape_for}
-use Rattle.kr_cmd_steps.specs.Steps.{Steps, borrow_tape, give, lending, Point, awaits, Left, MayBorrow, or_empty, tapes_with, with_asked, with_tape}
+use Rattle.kr_cmd_steps.specs.Steps.{Steps, borrow_tape, give, lending, Point, awaits, StepState, MayBorrow, or_empty, tapes_with, with_asked, with_tape}
 use Rattle.kr_cmd_steps.specs.inner.Lent.{with_lent_tape, with_tapes}
 use Rattle.kr_cmd_steps.specs.inner.Phases.{Does, AskedUnless}
 use Rattle.kr_cmd_steps.specs.inner.Tapes.{NoTape, LentTape, ReturnedTape}
 use Rattle.kr_cmd_messages.specs.declared.refusal.Refusal.{Refusal}
 use Rattle.kr_cmd_messages.specs.declared.refusal.Stop.{Stop}
 use Rattle.kr_cmd_messages.specs.declared.refusal.Stop.TheVariants.{Words, Refused, Fault, NoMemory}
-use Rattle.kr_cmd_steps.proofs.Goes.{reach, goes_on, asked_home, stays_noted, unasked}
+use Rattle.kr_cmd_steps.proofs.RunTo.{reach, goes_on, asked_home, stays_noted, unasked}
 use Rattle.kr_cmd_steps.proofs.Lending.{back_is, by_key, home_same, lent_home}
 
 -- ---- names
@@ -71,11 +71,11 @@ told_with true {name} held {count} {old} {out} h t = λ i other.
 -- ---- a tape that wasn't lent
 
 module _ {old new : Outside} (files : KeepsFiles old new) (objects : KeepsObjects old new)
-    (a : Around) where
+    (a : Environment) where
   not_lent_at : (name : List ℕ) (access : Access) (absent : Refusal) {A : Type 0} {next : Steps A}
-      {left : Left} → Stays left (with_world old a)
+      {left : StepState} → IsStateOf left (with_world old a)
       → new.asked ≡ with_call (Tape name access) old.asked
-      → Reaches (borrow_tape name access absent next) left (with_world new a)
+      → StepsEndAt (borrow_tape name access absent next) left (with_world new a)
       (awaits (lending name))
   not_lent_at name access absent {left = left} s made =
       reach (with_asked (Tape name access) left) (inr (inl (refl, refl)))
@@ -122,7 +122,7 @@ abbrev pub nothing : Steps (Unit {0})
 nothing = give tt
 
 pub lent : (name : List ℕ) (access : Access) (absent : Refusal) {old out : Outside}
-    {held : Option (List ℕ)} {count : ℕ} → LentTape name access old out held count → (a : Around)
+    {held : Option (List ℕ)} {count : ℕ} → LentTape name access old out held count → (a : Environment)
     → Does (borrow_tape name access absent nothing) (with_world old a)
     (with_lent_tape name held count (with_world out a)) (Ok tt)
 lent name access absent {old} {out} {held} {count} h a = record {
@@ -152,7 +152,7 @@ lent name access absent {old} {out} {held} {count} h a = record {
 }
 
 pub came_back : (name : List ℕ) {out new : Outside} {held : Option (List ℕ)} {count : ℕ}
-    → ReturnedTape name out new held count → (a : Around)
+    → ReturnedTape name out new held count → (a : Environment)
     → with_lent_tape name held count (with_world out a) ≡ with_world new a
 came_back name h a = λ i. record a {
   world = record {
@@ -168,7 +168,7 @@ came_back name h a = λ i. record a {
 -- it is borrowed for what follows, and comes back
 module _ (name : List ℕ) (access : Access) {old out mid new : Outside}
     {given back : Option (List ℕ)} {first count : ℕ} where
-  pub lends_tape_to : (a b : Around) {B : Type 0} {next : Steps B} {result : Result B Stop}
+  pub lends_tape_to : (a b : Environment) {B : Type 0} {next : Steps B} {result : Result B Stop}
       → LentTape name access old out given first → ReturnedTape name mid new back count
       → Does next (with_lent_tape name given first (with_world out a))
       (with_lent_tape name back count (with_world mid b)) result
@@ -178,7 +178,7 @@ module _ (name : List ℕ) (access : Access) {old out mid new : Outside}
       (came_back name returned b)
       (goes_on (tape_for name access nothing) (λ u. next) tt (lent name access _ h a) works)
 
-  pub lends_tape : (a : Around) {B : Type 0} {next : Steps B} {result : Result B Stop}
+  pub lends_tape : (a : Environment) {B : Type 0} {next : Steps B} {result : Result B Stop}
       → LentTape name access old out given first → ReturnedTape name mid new back count
       → Does next (with_lent_tape name given first (with_world out a))
       (with_lent_tape name back count (with_world mid a)) result
@@ -188,11 +188,11 @@ module _ (name : List ℕ) (access : Access) {old out mid new : Outside}
 -- what leaves the tapes, done while this one is out
 module _ (name : List ℕ) (told : Option (List ℕ)) (count : ℕ) where
   -- around with this world, with the tape out of these
-  abbrev Behind : Objects (List ℕ) (Option (Option (List ℕ))) → Outside → Around → Around
+  abbrev Behind : Objects (List ℕ) (Option (Option (List ℕ))) → Outside → Environment → Environment
   Behind tapes world a =
       with_world (with_tapes (with_lent same_name name (option_map Some told) count tapes) world) a
 
-  pub behind_tape_to : {old new : Outside} (a c : Around) {B : Type 0} {next : Steps B}
+  pub behind_tape_to : {old new : Outside} (a c : Environment) {B : Type 0} {next : Steps B}
       {result : Result B Stop} → new.tapes ≡ old.tapes
       → Does next (Behind old.tapes old a) (Behind old.tapes new c) result
       → Does next (with_lent_tape name told count (with_world old a))
@@ -201,7 +201,7 @@ module _ (name : List ℕ) (told : Option (List ℕ)) (count : ℕ) where
       subst (λ t. Does next (with_lent_tape name told count (with_world old a)) (Behind t new c)
       result) (sym same) d
 
-  pub behind_tape : {old new : Outside} (a : Around) {B : Type 0} {next : Steps B}
+  pub behind_tape : {old new : Outside} (a : Environment) {B : Type 0} {next : Steps B}
       {result : Result B Stop} → new.tapes ≡ old.tapes
       → Does next (Behind old.tapes old a) (Behind old.tapes new a) result
       → Does next (with_lent_tape name told count (with_world old a))

@@ -21,7 +21,7 @@ use Rattle.kr_provider.specs.declared.refusal.Opened.{Opened}
 use Rattle.kr_provider.specs.declared.refusal.UnsealNo.{UnsealNo}
 use Rattle.kr_provider.specs.declared.refusal.UnsealNo.TheVariants as unseal
 use Rattle.kr_cmd_steps.specs.ValueSteps.{fetching, opening, published_source, source_steps}
-use Rattle.kr_cmd_steps.specs.Steps.{Goes, Left, Point, Steps}
+use Rattle.kr_cmd_steps.specs.Steps.{RunTo, StepState, Point, Steps}
 
 pub one_key : (a b : SeedKey) → key_eq a b ≡ true → a ≡ b
 one_key a b t = (same_key a b).0 t
@@ -33,7 +33,7 @@ envelope_of object source = record { object = object; source = source }
 
 module _ {A : Type 0} (read_so : Reading → Bool → CacheState → Steps A) (seeds : List SeedRow)
     (path bytes : List ℕ) (stale : Option (List ℕ) → Bool) (kept : CacheState) (point : Point A)
-    (l : Left) where
+    (l : StepState) where
   -- the value, once its source is there
   abbrev With : Option Who → Result EncryptedObject ObjectNo → Option (List ℕ) → CacheState
       → Steps A
@@ -45,26 +45,26 @@ module _ {A : Type 0} (read_so : Reading → Bool → CacheState → Steps A) (s
       (source : Option (List ℕ)) → stale None ≡ stale source
       → reader_reading (envelope_of object source) reader path bytes
       ≡ reader_reading (envelope_of object None) reader path bytes
-      → Goes point l (With reader object source kept) l
-      → Goes point l (With reader object None kept) l
-  passes reader object source same reads goes = subst (λ b. Goes point l
+      → RunTo point l (With reader object source kept) l
+      → RunTo point l (With reader object None kept) l
+  passes reader object source same reads goes = subst (λ b. RunTo point l
       (read_so (reader_reading (envelope_of object None) reader path bytes) b kept) l) (sym same)
-      (subst (λ r. Goes point l (read_so r (stale source) kept) l) reads goes)
+      (subst (λ r. RunTo point l (read_so r (stale source) kept) l) reads goes)
 
   module _ (name : List ℕ) (object : EncryptedObject) (source : Option (List ℕ))
-      (goes : Goes point l (With (Some (Kms name)) (Ok object) source kept) l) where
+      (goes : RunTo point l (With (Some (Kms name)) (Ok object) source kept) l) where
     abbrev key : SeedKey
     key = seed_key name object
 
     at_source : (s : Option (List ℕ)) → source ≡ s
-        → Goes point l (With (Some (Kms name)) (Ok object) s kept) l
+        → RunTo point l (With (Some (Kms name)) (Ok object) s kept) l
     at_source s e =
-        subst (λ t. Goes point l (With (Some (Kms name)) (Ok object) t kept) l) e goes
+        subst (λ t. RunTo point l (With (Some (Kms name)) (Ok object) t kept) l) e goes
 
     by_seed : (row : SeedRow) (q : Bool) → key_eq (key_of row) key ≡ q
         → (IsSeedOf row name object → source ≡ Some row.seed)
         → ((IsSeedOf row name object → ⊥) → ⊥)
-        → Goes point l (source_steps (if q then Some row.seed else None) kept key
+        → RunTo point l (source_steps (if q then Some row.seed else None) kept key
         (With (Some (Kms name)) (Ok object))) l
     by_seed row true e takes own =
         at_source (Some row.seed) (takes (one_key (key_of row) key e))
@@ -76,7 +76,7 @@ module _ {A : Type 0} (read_so : Reading → Bool → CacheState → Steps A) (s
         → ((seed : SeedRow) → row ≡ Some seed → IsSeedOf seed name object
         → source ≡ Some seed.seed)
         → (((seed : SeedRow) → row ≡ Some seed → IsSeedOf seed name object → ⊥) → ⊥)
-        → Goes point l (source_steps (published_source row key) kept key
+        → RunTo point l (source_steps (published_source row key) kept key
         (With (Some (Kms name)) (Ok object))) l
     by_row None takes own =
         absurd (own (λ seed is same. let none : None ≡ Some seed = is in cc))
@@ -90,8 +90,8 @@ module _ {A : Type 0} (read_so : Reading → Bool → CacheState → Steps A) (s
       (source : Option (List ℕ)) → TakesSeed seeds reader (envelope_of object source)
       → (MayAskPlugin seeds reader object → ⊥)
       → ((s : Option (List ℕ)) → stale s ≡ stale source)
-      → Goes point l (With reader object source kept) l
-      → Goes point l (opening seeds reader object kept (With reader object)) l
+      → RunTo point l (With reader object source kept) l
+      → RunTo point l (opening seeds reader object kept (With reader object)) l
   opens_unasked None object source takes own fresh goes =
       passes None object source (fresh None) refl goes
   opens_unasked (Some Identity) object source takes own fresh goes =
@@ -126,10 +126,10 @@ as_stale seeds list bytes object s t =
 -- the source is fetched where the published seed is another
 pub asks_plugin : {A : Type 0} (seeds : List SeedRow) (name : List ℕ) (object : EncryptedObject)
     (kept : CacheState) (next : Option (List ℕ) → CacheState → Steps A) (point : Point A)
-    (end l : Left) → MayAskFor seeds name object
-    → Goes point end (fetching (seed_at kept.rows (seed_key name object)) kept
+    (end l : StepState) → MayAskFor seeds name object
+    → RunTo point end (fetching (seed_at kept.rows (seed_key name object)) kept
     (seed_key name object) next) l
-    → Goes point end (opening seeds (Some (Kms name)) (Ok object) kept next) l
+    → RunTo point end (opening seeds (Some (Kms name)) (Ok object) kept next) l
 asks_plugin {A} seeds name object kept next point end l asked goes = at (seed_of name seeds) asked
   where
     key : SeedKey
@@ -137,13 +137,13 @@ asks_plugin {A} seeds name object kept next point end l asked goes = at (seed_of
 
     by_test : (row : SeedRow) (q : Bool) → key_eq (key_of row) key ≡ q
         → (IsSeedOf row name object → ⊥)
-        → Goes point end (source_steps (if q then Some row.seed else None) kept key next) l
+        → RunTo point end (source_steps (if q then Some row.seed else None) kept key next) l
     by_test row true e other = absurd (other (one_key (key_of row) key e))
     by_test row false e other = goes
 
     at : (row : Option SeedRow)
         → ((seed : SeedRow) → row ≡ Some seed → IsSeedOf seed name object → ⊥)
-        → Goes point end (source_steps (published_source row key) kept key next) l
+        → RunTo point end (source_steps (published_source row key) kept key next) l
     at None other = goes
     at (Some row) other = by_test row (key_eq (key_of row) key) refl (λ same. other row refl same)
 

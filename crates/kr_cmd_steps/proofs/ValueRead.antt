@@ -31,17 +31,17 @@ use Rattle.kr_provider.specs.declared.refusal.SealNo.TheVariants as seal
 use Rattle.kr_provider.specs.declared.refusal.UnsealNo.{UnsealNo}
 use Rattle.kr_provider.specs.declared.refusal.UnsealNo.TheVariants as unseal
 use Rattle.kr_provider.specs.declared.refusal.ValueNo.{ValueNo}
-use Rattle.kr_cmd_steps.specs.Around.{Around, Ends, Reaches, Stays, with_exchanges}
+use Rattle.kr_cmd_steps.specs.Environment.{Environment, Ends, StepsEndAt, IsStateOf, with_exchanges}
 use Rattle.kr_cmd_steps.specs.ValueSteps.{draw_some, fetching, opening, reading_given, value_read, value_sealed, value_with}
 use Rattle.kr_cmd_steps.specs.Phases.{with_memory}
-use Rattle.kr_cmd_steps.specs.Steps.{Goes, Left, Point, Steps, amid, and_then, asking, awaits, drawing, give, gives, hearing, with_dice, with_heard}
+use Rattle.kr_cmd_steps.specs.Steps.{RunTo, StepState, Point, Steps, amid, and_then, asking, awaits, drawing, give, gives, hearing, with_dice, with_heard}
 use Rattle.kr_cmd_steps.specs.inner.Phases.{Does}
 use Rattle.kr_cmd_messages.specs.declared.refusal.Object.TheVariants.{Dice, Plugin}
 use Rattle.kr_cmd_messages.specs.declared.refusal.Stop.{Stop}
 use Rattle.kr_cmd_messages.specs.declared.refusal.Stop.TheVariants.{Fault, NoMemory}
 use Rattle.kr_provider.proofs.AskedLists.{asked_none}
 use Rattle.kr_cmd_steps.proofs.Frames.{Seen, drawn, home, keeps_none, kept, plugin_fault}
-use Rattle.kr_cmd_steps.proofs.Goes.{consumes_by, reach}
+use Rattle.kr_cmd_steps.proofs.RunTo.{consumes_by, reach}
 use Rattle.kr_cmd_steps.proofs.Hearing.{heard_none, home_heard, stays_heard}
 use Rattle.kr_cmd_steps.proofs.Unsealed.{as_stale, asks_plugin, asks_reader, opens_unasked}
 
@@ -51,8 +51,8 @@ pub no_bytes : (bytes : List ℕ) → length bytes ≡ 0 → bytes ≡ []
 no_bytes [] e = refl
 no_bytes (byte ∷ bytes) e = absurd (omega (arith, e))
 
-pub enough : {A : Type 0} {next : Steps A} {left : Left} {new : Around} {point : Point A}
-    → Reaches next left new point → Reaches (with_memory next) left new point
+pub enough : {A : Type 0} {next : Steps A} {left : StepState} {new : Environment} {point : Point A}
+    → StepsEndAt next left new point → StepsEndAt (with_memory next) left new point
 enough r = reach r.end (inr (tt, tt, r.goes)) r.stays
 
 pub none_marked : (long marked : Bool) (plain : List ℕ) → marked ≡ true
@@ -79,11 +79,11 @@ keeping kept (Err stop) = Err stop
 
 module _ {L : Type 0} (link : L → Link) (seeds : List SeedRow) (list : List Who)
     (path bytes : List ℕ) (olds news : List L) (distinct : AreDistinct link olds)
-    (dice : Option (List ℕ)) (count : ℕ) (a : Around) (cache : CacheState) where
-  abbrev Before : Around
+    (dice : Option (List ℕ)) (count : ℕ) (a : Environment) (cache : CacheState) where
+  abbrev Before : Environment
   Before = Seen link a olds dice count
 
-  abbrev After : List Exchange → Around
+  abbrev After : List Exchange → Environment
   After es = with_exchanges es (Seen link a news dice count)
 
   abbrev Value : Steps (Result Opened ValueNo × CacheState)
@@ -92,12 +92,12 @@ module _ {L : Type 0} (link : L → Link) (seeds : List SeedRow) (list : List Wh
   -- what the steps come to by an envelope, once its source is there
   abbrev Settles : Envelope → Result (Result Opened ValueNo) Stop → Type 0
   Settles envelope made = ((x : Result Opened ValueNo) × (made ≡ Ok x)
-      × ((l : Left) (kept : CacheState) → Goes (gives (x, kept)) l
+      × ((l : StepState) (kept : CacheState) → RunTo (gives (x, kept)) l
       (value_with seeds list path bytes envelope.object envelope.source kept) l))
       ⊎ (made ≡ Err NoMemory)
 
-  abbrev Given : Envelope → CacheState → Left → Result Opened ValueNo → Reading → Bool → Type 0
-  Given envelope now l x r stale = Goes {A = Result Opened ValueNo × CacheState} (gives (x, now)) l
+  abbrev Given : Envelope → CacheState → StepState → Result Opened ValueNo → Reading → Bool → Type 0
+  Given envelope now l x r stale = RunTo {A = Result Opened ValueNo × CacheState} (gives (x, now)) l
       (and_then (reading_given r stale) (λ (read : Result Opened ValueNo). give (read, now))) l
 
   settles : (envelope : Envelope) (result : Result Opened UnsealNo)
@@ -126,15 +126,15 @@ module _ {L : Type 0} (link : L → Link) (seeds : List SeedRow) (list : List Wh
       (names : List (List ℕ)) (asked : AskedOnly link names olds news)
       (fails : (name : List ℕ) → result ≡ Err (unseal.PluginFailed name)
       → FaultRose link name olds news)
-      (e : IsValueEnd link news result made) (after : CacheState) (l : Left)
-      (s : Stays l Before) where
-    stay : Stays l (Seen link a news dice count)
+      (e : IsValueEnd link news result made) (after : CacheState) (l : StepState)
+      (s : IsStateOf l Before) where
+    stay : IsStateOf l (Seen link a news dice count)
     stay = kept link a names olds news asked dice dice count count (Keeps-refl dice) l s
 
-    unheard : Stays l (After [])
+    unheard : IsStateOf l (After [])
     unheard = stays_heard {left = l} [] l.heard (heard_none l.heard) stay
 
-    heard : (exchange : Exchange) → Stays (with_heard exchange l) (After (exchange ∷ []))
+    heard : (exchange : Exchange) → IsStateOf (with_heard exchange l) (After (exchange ∷ []))
     heard exchange =
         stays_heard {left = l} (exchange ∷ []) (hearing (exchange ∷ []) l.heard) refl stay
 
@@ -146,7 +146,7 @@ module _ {L : Type 0} (link : L → Link) (seeds : List SeedRow) (list : List Wh
     ended_so es m is ends = subst (λ m. Ends Value l Before (After es) (keeping after m)) (sym is) ends
 
     forgot : (es : List Exchange) → result ≡ Err unseal.NoMemory
-        → Reaches Value l (After es) amid → Ended es
+        → StepsEndAt Value l (After es) amid → Ended es
     forgot es is r =
         ended_so es (Err NoMemory) (subst (λ q. IsValueEnd link news q made) is e) (inr r)
 
@@ -162,7 +162,7 @@ module _ {L : Type 0} (link : L → Link) (seeds : List SeedRow) (list : List Wh
         ended_so [] (Ok x) is (reach l (inr (
           envelope.object,
           has,
-          subst (λ c. Goes (gives (x, c)) l (opening seeds (reader_in list bytes) envelope.object
+          subst (λ c. RunTo (gives (x, c)) l (opening seeds (reader_in list bytes) envelope.object
               cache (value_with seeds list path bytes envelope.object)) l) (sym same)
               (opens_unasked (λ r b c. and_then (reading_given r b)
               (λ (read : Result Opened ValueNo). give (read, c))) seeds path bytes stale cache
@@ -184,16 +184,16 @@ module _ {L : Type 0} (link : L → Link) (seeds : List SeedRow) (list : List Wh
       With = value_with seeds list path bytes (Ok object)
 
       -- the steps come to where the source's own do
-      by_source : (es : List Exchange) (seed : Option (List ℕ)) (point : Point (Result Opened ValueNo × CacheState)) (end : Left)
+      by_source : (es : List Exchange) (seed : Option (List ℕ)) (point : Point (Result Opened ValueNo × CacheState)) (end : StepState)
           → seed_at cache.rows key ≡ seed
-          → Goes point end (fetching seed cache key With) l → Stays end (After es)
-          → Reaches Value l (After es) point
+          → RunTo point end (fetching seed cache key With) l → IsStateOf end (After es)
+          → StepsEndAt Value l (After es) point
       by_source es seed point end found goes stays = reach end (inr (
         Ok object,
         subst (λ r. HasObject r bytes (Ok object)) (sym reader) has,
-        subst (λ r. Goes point end (opening seeds r (Ok object) cache With) l) (sym reader)
+        subst (λ r. RunTo point end (opening seeds r (Ok object) cache With) l) (sym reader)
             (asks_plugin seeds name object cache With point end l may
-            (subst (λ f. Goes point end (fetching f cache key With) l) (sym found) goes)),
+            (subst (λ f. RunTo point end (fetching f cache key With) l) (sym found) goes)),
       )) stays
 
       abbrev Sourced : List ℕ → Envelope
@@ -203,7 +203,7 @@ module _ {L : Type 0} (link : L → Link) (seeds : List SeedRow) (list : List Wh
       kept_ends : (source : List ℕ) → seed_at cache.rows key ≡ Some source
           → after ≡ with_used cache key → Settles (Sourced source) made → Ended []
       kept_ends source found same (inl (x, is, goes)) = ended_so [] (Ok x) is
-          (subst (λ c. Reaches Value l (After []) (gives (x, c))) (sym same)
+          (subst (λ c. StepsEndAt Value l (After []) (gives (x, c))) (sym same)
           (by_source [] (Some source) (gives (x, with_used cache key)) l found
           (goes l (with_used cache key)) unheard))
       kept_ends source found same (inr is) =
@@ -328,36 +328,36 @@ Rises before now (Err seal.DiceFailed) = Rose before now
 Rises before now result = ⊤
 
 module _ {L D : Type 0} (link : L → Link) (left : D → Option (List ℕ)) (count : D → ℕ)
-    (links : List L) (old new : D) (before now : ℕ) (a : Around) where
-  abbrev Undrawn : Around
+    (links : List L) (old new : D) (before now : ℕ) (a : Environment) where
+  abbrev Undrawn : Environment
   Undrawn = Seen link a links (left old) before
 
-  abbrev Drawn : Around
+  abbrev Drawn : Environment
   Drawn = Seen link a links (left new) now
 
-  still : Keeps (left old) (left new) → (l : Left) → Stays l Undrawn → Stays l Drawn
+  still : Keeps (left old) (left new) → (l : StepState) → IsStateOf l Undrawn → IsStateOf l Drawn
   still k l s =
       kept link a [] links links (asked_none link [] links) (left old) (left new) before now k l s
 
-  taken : (l : Left) → Stays l Undrawn → Stays (with_dice 0 (left new) l) Drawn
+  taken : (l : StepState) → IsStateOf l Undrawn → IsStateOf (with_dice 0 (left new) l) Drawn
   taken l s =
       drawn link a [] links links (asked_none link [] links) (left old) (left new) before now l s
 
-  same_left : (l : Left) → new ≡ old → Stays l Undrawn → Stays l Drawn
+  same_left : (l : StepState) → new ≡ old → IsStateOf l Undrawn → IsStateOf l Drawn
   same_left l same s =
       still (subst (λ d. Keeps (left old) (left d)) (sym same) (Keeps-refl (left old))) l s
 
-  draws : (size : ℕ) (sealed : List ℕ → Option (List ℕ)) (bytes value : List ℕ) (l : Left)
+  draws : (size : ℕ) (sealed : List ℕ → Option (List ℕ)) (bytes value : List ℕ) (l : StepState)
       → length bytes ≡ size → sealed bytes ≡ Some value → Consumes (left old) (left new) bytes
-      → Stays l Undrawn
-      → Reaches (draw_some size (λ d. give (sealed d))) l Drawn (gives (Some value))
+      → IsStateOf l Undrawn
+      → StepsEndAt (draw_some size (λ d. give (sealed d))) l Drawn (gives (Some value))
   draws zero sealed bytes value l fits is c s =
       let none = no_bytes bytes fits in
       reach l (ap (λ o. gives o) (sym (ap sealed (sym none) ∙ is)), refl)
       (still (keeps_none (left old) (left new)
       (subst (λ d. Consumes (left old) (left new) d) none c)) l s)
   draws (suc more) sealed bytes value l fits is c s =
-      let rest : Left = with_dice 0 (left new) l in
+      let rest : StepState = with_dice 0 (left new) l in
       reach rest (inr (
         bytes,
         left new,
@@ -367,16 +367,16 @@ module _ {L D : Type 0} (link : L → Link) (left : D → Option (List ℕ)) (co
       ))
       (taken l s)
 
-  undrawn : (who : Who) (seeds : List SeedRow) (path plain : List ℕ) (l : Left) → who ≢ Identity
-      → Keeps (left old) (left new) → Stays l Undrawn
-      → Reaches (value_sealed seeds who path plain) l Drawn (awaits (drawing 0))
+  undrawn : (who : Who) (seeds : List SeedRow) (path plain : List ℕ) (l : StepState) → who ≢ Identity
+      → Keeps (left old) (left new) → IsStateOf l Undrawn
+      → StepsEndAt (value_sealed seeds who path plain) l Drawn (awaits (drawing 0))
   undrawn Identity seeds path plain l n k s = absurd (n refl)
   undrawn other seeds path plain l n k s = enough (reach l (inl (refl, refl)) (still k l s))
 
   sealed_ends : (who : Who) (seeds : List SeedRow) (path plain : List ℕ)
-      (result : Result (List ℕ) SealNo) (l : Left) → length plain ≤ data_limit
+      (result : Result (List ℕ) SealNo) (l : StepState) → length plain ≤ data_limit
       → Rises before now result → Seals left count seeds who path plain old new result
-      → Stays l Undrawn
+      → IsStateOf l Undrawn
       → Ends (value_sealed seeds who path plain) l Undrawn Drawn (sealed_end now result)
   sealed_ends who seeds path plain (Ok value) l fits r (bytes, all, is, c, same) s =
       enough (draws (draw_size who) (sealed_by seeds who path plain) bytes value l all.0 is c s)
@@ -384,7 +384,7 @@ module _ {L D : Type 0} (link : L → Link) (left : D → Option (List ℕ)) (co
       absurd (omega (arith, fits, large))
   sealed_ends who seeds path plain (Err seal.LooksEncrypted) l fits r (short, e, marked, same) s =
       let none = none_marked (nat_lt data_limit (length plain)) (is_marked plain) plain marked in
-      subst (λ w. Reaches (value_sealed seeds w path plain) l Drawn (gives None)) (sym e)
+      subst (λ w. StepsEndAt (value_sealed seeds w path plain) l Drawn (gives None)) (sym e)
       (enough (reach l (ap (λ o. gives o) (sym none), refl)
       (same_left l same s)))
   sealed_ends who seeds path plain (Err seal.DiceFailed) l fits r (short, draws_so, rose, k) s =

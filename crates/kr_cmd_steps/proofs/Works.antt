@@ -12,7 +12,7 @@ use Rattle.kr_provider.specs.declared.refusal.SealNo.{SealNo}
 use Rattle.kr_provider.specs.declared.refusal.SealNo.TheVariants as seal
 use Rattle.kr_provider.specs.declared.refusal.ValueNo.TheVariants.{LooksEncrypted}
 use Rattle.kr_provider.proofs.AskedLists.{names_stay}
-use Rattle.kr_cmd_steps.specs.Around.{Around, with_exchanges}
+use Rattle.kr_cmd_steps.specs.Environment.{Environment, with_exchanges}
 use Rattle.kr_cmd_steps.specs.Phases.{silently, with_memory, input_limit}
 use Rattle.kr_cmd_steps.specs.ValueSteps.{none_kept, value_steps, sealing, working_by, freshness, unsealing, value_read, value_sealed, data_steps}
 use Rattle.kr_cmd_messages.specs.declared.command.Direction.{Direction}
@@ -25,7 +25,7 @@ use Rattle.kr_cmd_messages.specs.declared.refusal.Refusal.TheVariants.{Value}
 use Rattle.kr_cmd_messages.specs.declared.refusal.Stop.{Stop}
 use Rattle.kr_cmd_messages.specs.declared.refusal.Stop.TheVariants.{NoMemory, Fault, Refused}
 use Rattle.kr_cmd_steps.proofs.Frames.{Seen}
-use Rattle.kr_cmd_steps.proofs.Goes.{home_refl, reach, goes_on, given, stops}
+use Rattle.kr_cmd_steps.proofs.RunTo.{home_refl, reach, goes_on, given, stops}
 use Rattle.kr_kms.specs.Cache.{CacheState}
 use Rattle.kr_kms.specs.Exchanges.{Exchange}
 use Rattle.kr_provider.specs.Exchanges.{ReadsBy}
@@ -42,27 +42,27 @@ use Rattle.kr_cmd_messages.specs.declared.refusal.Refusal.{Refusal}
 use Rattle.kr_cmd_steps.proofs.ValueRead.{IsValueEnd, Rises, keeping, sealed_does, sealed_end, value_does}
 
 -- memory lacked before anything was done
-pub lacks : {A : Type 0} (next : Steps A) (a : Around) → Does (with_memory next) a a (Err NoMemory)
+pub lacks : {A : Type 0} (next : Steps A) (a : Environment) → Does (with_memory next) a a (Err NoMemory)
 lacks next a =
     record { home = home_refl a; ends = λ left s. inr (reach left (inl (refl, refl)) s) }
 
 -- steps that refuse
-declined : {A : Type 0} (why : Refusal) (a : Around)
+declined : {A : Type 0} (why : Refusal) (a : Environment)
     → Does {A = A} (refuse why) a a (Err (Refused why))
 declined why a = record { home = home_refl a; ends = λ left s. reach left (refl, refl) s }
 
 -- ---- what a bench sealed: its links weren't asked
 
 module _ {L D : Type 0} (link : L → Link) (left : D → Option (List ℕ)) (count : D → ℕ)
-    (links : List L) (old new : D) (a : Around) (who : Who) (seeds : List SeedRow)
+    (links : List L) (old new : D) (a : Environment) (who : Who) (seeds : List SeedRow)
     (path bytes : List ℕ) where
   abbrev Sealed : Steps (Option (List ℕ))
   Sealed = value_sealed seeds who path bytes
 
-  abbrev Undrawn : Around
+  abbrev Undrawn : Environment
   Undrawn = Seen link a links (left old) (count old)
 
-  abbrev Drawn : Around
+  abbrev Drawn : Environment
   Drawn = Seen link a links (left new) (count new)
 
   seals_by : (result : Result (List ℕ) SealNo) → length bytes ≤ data_limit
@@ -88,7 +88,7 @@ module _ {L D : Type 0} (link : L → Link) (left : D → Option (List ℕ)) (co
 
 -- what a bench that adopted a publication sealed, once its links and its random source are back
 pub seal_made : {L D : Type 0} (link : L → Link) (left : D → Option (List ℕ)) (count : D → ℕ)
-    (resource path bytes : List ℕ) (a : Around) (published : Option Publication)
+    (resource path bytes : List ℕ) (a : Environment) (published : Option Publication)
     (direction : Direction) (links back : List L) (old mid new : D) (faults : ℕ)
     (result : Result (List ℕ) SealNo) (made : Result Outcome Stop)
     → direction ≡ Encrypt → length bytes ≤ input_limit direction → count old ≤ count mid
@@ -125,7 +125,7 @@ sealed_size faults (Err other) s = tt
 
 module _ {L : Type 0} (link : L → Link) (seeds : List SeedRow) (list : List Who)
     (path bytes : List ℕ) (olds news : List L) (distinct : AreDistinct link olds)
-    (dice : Option (List ℕ)) (count : ℕ) (a : Around) (after : CacheState) (es : List Exchange)
+    (dice : Option (List ℕ)) (count : ℕ) (a : Environment) (after : CacheState) (es : List Exchange)
   where
     abbrev ValueSteps : Steps (Result Opened ValueNo × CacheState)
     ValueSteps = value_read seeds list path bytes none_kept
@@ -134,10 +134,10 @@ module _ {L : Type 0} (link : L → Link) (seeds : List SeedRow) (list : List Wh
     abbrev Told : Result Opened ValueNo × CacheState → Steps Outcome
     Told read = data_steps read.0
 
-    abbrev Before : Around
+    abbrev Before : Environment
     Before = Seen link a olds dice count
 
-    abbrev After : Around
+    abbrev After : Environment
     After = with_exchanges es (Seen link a news dice count)
 
     abbrev ReadsMessage : Result Opened UnsealNo → Type 0
@@ -180,7 +180,7 @@ module _ {L D : Type 0} (link : L → Link) (left : D → Option (List ℕ))
   ReadFrom kept p = UnsealsBy link p.seeds (list_at p resource) path bytes olds result news
       × ReadsBy p.seeds (list_at p resource) path bytes kept result after es
 
-  pub unseal_made : (a : Around) (direction : Direction) (back : List L) (old new : D)
+  pub unseal_made : (a : Environment) (direction : Direction) (back : List L) (old new : D)
       (made : Result Outcome Stop) → AreDistinct link olds
       → direction ≡ Decrypt → back ≡ news → new ≡ old → IsUnsealEnd link back result made
       → IfSome published (ReadFrom cache)

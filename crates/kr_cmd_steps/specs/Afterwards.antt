@@ -13,7 +13,7 @@ use Rattle.kr_store.specs.declared.format.Format.TheVariants.{Two}
 use Rattle.kr_store.specs.declared.rows.LogRow.{LogRow}
 use Rattle.kr_store.specs.declared.rows.Row as stored
 use Rattle.kr_store.specs.Stores.{IsListing}
-use Rattle.kr_cmd_steps.specs.Around.{Around}
+use Rattle.kr_cmd_steps.specs.Environment.{Environment}
 use Rattle.kr_cmd_messages.specs.Command.{Asks}
 use Rattle.kr_cmd_messages.specs.Receipts.{Receipt}
 use Rattle.kr_cmd_steps.specs.StoreSteps.{migrated_row}
@@ -177,7 +177,7 @@ Settles command new = ⊤
 
 -- the words stopped the call, and nothing was written; or they ask for a command that leaves the
 -- tapes so, and settled what it wrote at status 0, and wherever anything of it was printed
-abbrev pub AreLeft : List (List ℕ) → Around → Around → Receipt → (status : ℕ) → Type 0
+abbrev pub AreLeft : List (List ℕ) → Environment → Environment → Receipt → (status : ℕ) → Type 0
 AreLeft words old new output status =
     ((status ≢ 0) × (new.world.tapes.told ≡ old.world.tapes.told) × WroteNothing output)
     ⊎ ((command : Command) × Asks words command

@@ -1,6 +1,6 @@
 -- The page of the commands: each is a row of phases, put behind one another by `and_then`, which
 -- goes on with what the phase before gave. Each phase stands in the file that its import names;
--- what a step is, and where it may end a command, in `Steps` and `Around`.
+-- what a step is, and where it may end a command, in `Steps` and `Environment`.
 use Rattle.std.specs.Prelude.{◌≡◌, ℕ, List, Ok}
 use Rattle.kr_kms.specs.declared.world.Access.TheVariants.{ToRead, ToWrite}
 use Rattle.kr_cmd_steps.specs.Check.{listing}

@@ -1,6 +1,6 @@
 -- The definitions that contracts cite.
 pub mod Afterwards
-pub mod Around
+pub mod Environment
 pub mod Check
 pub mod Commands
 pub mod Configuration

@@ -1,4 +1,5 @@
--- What a command asks of the outside, step by step, and how it goes on by what it saw.
+-- What a command asks of the outside, step by step, and how it goes on by what it saw: an
+-- interaction tree, by the field's word.
 use Rattle.std.specs.Prelude.{◌≡◌, ℕ, ◌+◌, ◌≤◌, ◌==◌, ◌⊎◌, Bool, true, false, List, [], ◌∷◌, ◌++◌, length, Option, None, Some, Result, Ok, Err, if◌then◌else◌}
 use Rattle.std.specs.Io.KnownBytes.{Consumes, IsAtEnd}
 use Rattle.std.specs.Option.{option_map}
@@ -141,11 +142,11 @@ tapes_with true name tapes =
 abbrev pub MayBorrow : Option (Option (List ℕ)) → (make : Bool) → Type 0
 MayBorrow tape make = tape ≡ Some None → make ≡ true
 
--- the files by their names and the statuses of links, which stay; what the steps so far left of the
--- tapes, of the input and of the random source of each seat, the calls that they made on the world,
--- and what they asked plugins and were answered, one exchange behind another, all this where it is
--- told; and what they said last
-pub record Left : Type 0 where
+-- what stands between two steps: the files by their names and the statuses of links, which stay;
+-- what the steps so far left of the tapes, of the input and of the random source of each seat, the
+-- calls that they made on the world, and what they asked plugins and were answered, one exchange
+-- behind another, all this where it is told; and what they said last
+pub record StepState : Type 0 where
   pub file : List ℕ → Option (Option (List ℕ))
   pub tapes : List ℕ → Option (Option (List ℕ))
   pub links : ℕ × List ℕ → Option Status
@@ -155,102 +156,102 @@ pub record Left : Type 0 where
   pub heard : Option (List Exchange)
   pub said : List ℕ
 
-abbrev pub with_input : Option (List ℕ) → Left → Left
+abbrev pub with_input : Option (List ℕ) → StepState → StepState
 with_input rest left = record left { input = rest }
 
-abbrev pub with_dice : ℕ → Option (List ℕ) → Left → Left
+abbrev pub with_dice : ℕ → Option (List ℕ) → StepState → StepState
 with_dice seat rest left = record left { dice = instead seat rest left.dice }
 
-abbrev pub with_tape : (make : Bool) (name : List ℕ) → Left → Left
+abbrev pub with_tape : (make : Bool) (name : List ℕ) → StepState → StepState
 with_tape make name left = record left { tapes = tapes_with make name left.tapes }
 
 -- a tape that is lent tells this
-abbrev pub with_told : (name : List ℕ) → Option (List ℕ) → Left → Left
+abbrev pub with_told : (name : List ℕ) → Option (List ℕ) → StepState → StepState
 with_told name told left = record left {
   tapes = λ other. if same_name name other then option_map Some told else left.tapes other;
 }
 
-abbrev pub with_asked : WorldCall → Left → Left
+abbrev pub with_asked : WorldCall → StepState → StepState
 with_asked call left = record left { asked = with_call call left.asked }
 
 -- these exchanges behind those that are told
 abbrev pub hearing : List Exchange → Option (List Exchange) → Option (List Exchange)
 hearing exchanges heard = option_map (λ before. before ++ exchanges) heard
 
-abbrev pub with_heard : Exchange → Left → Left
+abbrev pub with_heard : Exchange → StepState → StepState
 with_heard exchange left = record left { heard = hearing (exchange ∷ []) left.heard }
 
-abbrev pub with_said : List ℕ → Left → Left
+abbrev pub with_said : List ℕ → StepState → StepState
 with_said text left = record left { said = text }
 
--- from what is left the steps went to this point, and left this
-module _ {A : Type 0} (point : Point A) (end : Left) where
-  abbrev pub IsAt : Point A → Left → Type 0
+-- from a state the steps run to this point, and leave that state at the end
+module _ {A : Type 0} (point : Point A) (end : StepState) where
+  abbrev pub IsAt : Point A → StepState → Type 0
   IsAt here left = (point ≡ here) × (end ≡ left)
 
-  abbrev pub Goes : Steps A → Left → Type 0
-  Goes (load name next) left =
+  abbrev pub RunTo : Steps A → StepState → Type 0
+  RunTo (load name next) left =
       IsAt amid left
       ⊎ IsAt (awaits (loading name)) (with_asked (File name) left)
       ⊎ ((bytes : Option (List ℕ)) × Agrees (left.file name) bytes
-      × Goes (next bytes) (with_asked (File name) left))
-  Goes (take_input limit long next) left =
+      × RunTo (next bytes) (with_asked (File name) left))
+  RunTo (take_input limit long next) left =
       (bytes : List ℕ) × (rest : Option (List ℕ)) × Consumes left.input rest bytes × (
       ((length bytes ≤ limit) × IsAt (awaits reading) (with_input rest left))
       ⊎ ((length bytes ≡ limit + 1) × IsAt (refuses long) (with_input rest left))
-      ⊎ ((length bytes ≤ limit) × IsAtEnd rest × Goes (next bytes) (with_input rest left))
+      ⊎ ((length bytes ≤ limit) × IsAtEnd rest × RunTo (next bytes) (with_input rest left))
       )
-  Goes (borrow_dice seat next) left =
+  RunTo (borrow_dice seat next) left =
       IsAt amid left
       ⊎ IsAt (awaits (opening seat)) (with_asked (RandomSource seat) left)
-      ⊎ Goes next (with_asked (RandomSource seat) left)
-  Goes (borrow_tape name access absent next) left =
+      ⊎ RunTo next (with_asked (RandomSource seat) left)
+  RunTo (borrow_tape name access absent next) left =
       IsAt amid left
       ⊎ IsAt (awaits (lending name)) (with_asked (Tape name access) left)
       ⊎ ((makes access ≡ false) × Agrees (left.tapes name) None
       × IsAt (refuses absent) (with_asked (Tape name access) left))
       ⊎ (MayBorrow (left.tapes name) (makes access)
-      × Goes next (with_tape (makes access) name (with_asked (Tape name access) left)))
-  Goes (read_tape object name next) left =
+      × RunTo next (with_tape (makes access) name (with_asked (Tape name access) left)))
+  RunTo (read_tape object name next) left =
       IsAt (awaits (scanning object name)) left
-      ⊎ ((bytes : List ℕ) × Agrees (left.tapes name) (Some bytes) × Goes (next bytes) left)
-  Goes (write_row object name store row next) left =
+      ⊎ ((bytes : List ℕ) × Agrees (left.tapes name) (Some bytes) × RunTo (next bytes) left)
+  RunTo (write_row object name store row next) left =
       ((told : Option (List ℕ)) × BeginsWith store told
       × IsAt (awaits (writing object name)) (with_told name told left))
       ⊎ ((told : Option (List ℕ)) × HoldsRows (with_row row store) told
-      × Goes next (with_told name told left))
-  Goes (keep_rows name store next) left =
-      (told : Option (List ℕ)) × HoldsRows store told × Goes next (with_told name told left)
-  Goes (settle object name next) left =
-      IsAt (awaits (settling object name)) left ⊎ Goes next (with_asked (Settled name) left)
-  Goes (give_back name next) left = Goes next (with_asked (Returned name) left)
-  Goes (draw seat size next) left =
+      × RunTo next (with_told name told left))
+  RunTo (keep_rows name store next) left =
+      (told : Option (List ℕ)) × HoldsRows store told × RunTo next (with_told name told left)
+  RunTo (settle object name next) left =
+      IsAt (awaits (settling object name)) left ⊎ RunTo next (with_asked (Settled name) left)
+  RunTo (give_back name next) left = RunTo next (with_asked (Returned name) left)
+  RunTo (draw seat size next) left =
       IsAt (awaits (drawing seat)) left
       ⊎ ((bytes : List ℕ) × (rest : Option (List ℕ)) × Consumes (left.dice seat) rest bytes
-      × (length bytes ≡ size) × Goes (next bytes) (with_dice seat rest left))
-  Goes (borrow_link seat plugin program next) left =
+      × (length bytes ≡ size) × RunTo (next bytes) (with_dice seat rest left))
+  RunTo (borrow_link seat plugin program next) left =
       IsAt amid left
       ⊎ IsAt (awaits (linking seat plugin)) (with_asked (Link seat plugin program) left)
-      ⊎ Goes next (with_asked (Link seat plugin program) left)
-  Goes (ask_status seat plugin next) left =
+      ⊎ RunTo next (with_asked (Link seat plugin program) left)
+  RunTo (ask_status seat plugin next) left =
       IsAt amid left
       ⊎ ((answer : Result Status KmsNo) × IsAt amid (with_heard (StatusCall plugin answer) left))
       ⊎ IsAt (awaits (asking seat plugin)) (with_heard (StatusCall plugin (Err Failed)) left)
       ⊎ ((status : Status) × Agrees (left.links (seat, plugin)) status
-      × Goes (next status) (with_heard (StatusCall plugin (Ok status)) left))
-  Goes (wrap seat plugin plain next) left =
+      × RunTo (next status) (with_heard (StatusCall plugin (Ok status)) left))
+  RunTo (wrap seat plugin plain next) left =
       IsAt amid left
       ⊎ ((answer : Result Wrapped KmsNo)
       × IsAt amid (with_heard (WrapCall plugin plain answer) left))
       ⊎ IsAt (awaits (asking seat plugin)) (with_heard (WrapCall plugin plain (Err Failed)) left)
       ⊎ ((wrapped : Wrapped) × IsWithinLimits wrapped
-      × Goes (next wrapped) (with_heard (WrapCall plugin plain (Ok wrapped)) left))
-  Goes (unwrap seat key next) left =
+      × RunTo (next wrapped) (with_heard (WrapCall plugin plain (Ok wrapped)) left))
+  RunTo (unwrap seat key next) left =
       IsAt amid left
       ⊎ ((answer : Result (List ℕ) KmsNo) × IsAt amid (with_heard (UnwrapCall key answer) left))
       ⊎ IsAt (awaits (asking seat key.name)) (with_heard (UnwrapCall key (Err Failed)) left)
-      ⊎ ((bytes : List ℕ) × Goes (next bytes) (with_heard (UnwrapCall key (Ok bytes)) left))
-  Goes (note text next) left = Goes next (with_said text left)
-  Goes (find B P next) left = IsAt amid left ⊎ ((b : B) × P b × Goes (next b) left)
-  Goes (refuse why) left = IsAt (refuses why) left
-  Goes (give x) left = IsAt (gives x) left
+      ⊎ ((bytes : List ℕ) × RunTo (next bytes) (with_heard (UnwrapCall key (Ok bytes)) left))
+  RunTo (note text next) left = RunTo next (with_said text left)
+  RunTo (find B P next) left = IsAt amid left ⊎ ((b : B) × P b × RunTo (next b) left)
+  RunTo (refuse why) left = IsAt (refuses why) left
+  RunTo (give x) left = IsAt (gives x) left

@@ -7,9 +7,9 @@ use Rattle.kr_kms.specs.declared.plugin.Wrapped.{Wrapped}
 use Rattle.kr_kms.specs.declared.seeds.SeedKey.{SeedKey}
 use Rattle.kr_cmd_messages.specs.declared.command.Command.{Command}
 use Rattle.kr_cmd_messages.specs.declared.refusal.Outcome.{Outcome}
-use Rattle.kr_cmd_steps.specs.Around.{Around, left_of}
+use Rattle.kr_cmd_steps.specs.Environment.{Environment, step_state}
 use Rattle.kr_cmd_steps.specs.Commands.{steps}
-use Rattle.kr_cmd_steps.specs.Steps.{Steps, load, take_input, borrow_dice, borrow_tape, read_tape, write_row, keep_rows, settle, give_back, draw, borrow_link, ask_status, wrap, unwrap, note, find, refuse, give, Point, Left, Goes, MayBorrow, with_dice, with_input, with_tape, with_told}
+use Rattle.kr_cmd_steps.specs.Steps.{Steps, load, take_input, borrow_dice, borrow_tape, read_tape, write_row, keep_rows, settle, give_back, draw, borrow_link, ask_status, wrap, unwrap, note, find, refuse, give, Point, StepState, RunTo, MayBorrow, with_dice, with_input, with_tape, with_told}
 
 -- each of the files is told
 abbrev pub AreTold : (List ℕ → Option (Option (List ℕ))) → (names : List (List ℕ)) → Type 0
@@ -25,7 +25,7 @@ IsAmong exchanges exchange = IsSomeAnd exchanges (λ told. Contains told exchang
 -- any. What stands behind the step that ends them needn't be told, and a tape that they wrote tells
 -- nothing more
 module _ (exchanges : Option (List Exchange)) where
-  abbrev pub IsTold : {A : Type 0} → Steps A → Left → Type 0
+  abbrev pub IsTold : {A : Type 0} → Steps A → StepState → Type 0
   IsTold (load name next) told = IsSome (told.file name)
       × ((file : Option (List ℕ)) → told.file name ≡ Some file → IsTold (next file) told)
   IsTold (take_input limit long next) told = IsSome told.input
@@ -65,8 +65,8 @@ AnswersOnce exchanges = (key : SeedKey) (a b : List ℕ) → IsAmong exchanges (
     → IsAmong exchanges (UnwrapCall key (Ok b)) → b ≡ a
 
 -- with these exchanges the steps of the command may end so over what is told
-pub record MayEnd (exchanges : Option (List Exchange)) (command : Command) (old : Around)
+pub record MayEnd (exchanges : Option (List Exchange)) (command : Command) (old : Environment)
     (point : Point Outcome) : Type 0 where
-  pub end : Left
-  pub goes : Goes point end (steps command) (left_of old)
+  pub end : StepState
+  pub goes : RunTo point end (steps command) (step_state old)
   pub heard : end.heard ≡ exchanges

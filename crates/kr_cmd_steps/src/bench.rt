@@ -4,7 +4,7 @@ ghost use Rattle.kr_base.specs.Limits.{path_limit, value_limit};
 ghost use Rattle.kr_base.specs.Walks.{Talk};
 ghost use Rattle.kr_provider.specs.AskedLinks.{Among};
 ghost use Rattle.kr_provider.specs.Names.{AreDistinct, HasLinks, names_of};
-ghost use Rattle.kr_cmd_steps.specs.Around.{Around, with_exchanges};
+ghost use Rattle.kr_cmd_steps.specs.Environment.{Environment, with_exchanges};
 ghost use Rattle.kr_cmd_steps.specs.ValueSteps.{freshness, none_kept, working_by};
 ghost use Rattle.kr_cmd_steps.specs.Phases.{input_limit};
 ghost use Rattle.kr_cmd_messages.specs.declared.command.Direction.{Direction};
@@ -74,7 +74,7 @@ pub fn work<L: Kms, D: Dice>(
     requires path { length path.now ≤ path_limit }
     requires fits { length bytes ≤ input_limit direction }
     ensures made { Talk (Among L.step) bench.links result.1
-        (λ es. (a : Around) → IfSome bench.published (λ p. Does
+        (λ es. (a : Environment) → IfSome bench.published (λ p. Does
         (working_by direction resource.now path.now p.rows bytes p.seeds)
         (with_lent_links L.link 0 bench.links
         (with_lent_dice 0 (D.left bench.dice) (D.count bench.dice) a))

@@ -1,4 +1,6 @@
-//! The steps that commands are made of, and the phases that do them.
+//! The steps that commands are made of, and the phases that do them. A command's steps are an
+//! interaction tree: data that say what it asks of its environment, and how it goes on by each
+//! answer.
 #![tactic(auto)]
 
 mod bench;

@@ -2,7 +2,7 @@
 ghost use Rattle.std.specs.Prelude.{◌≡◌, ◌<◌, ◌≤◌, ℕ, List, Ok, Err, length, IfOk, IfErr, OnErr};
 ghost use Rattle.kr_kms.specs.Outside.{KeepsFiles, KeepsObjects, file_faults};
 ghost use Rattle.kr_kms.specs.declared.world.WorldCall.{WorldCall};
-ghost use Rattle.kr_cmd_steps.specs.Around.{Around, with_world};
+ghost use Rattle.kr_cmd_steps.specs.Environment.{Environment, with_world};
 ghost use Rattle.kr_cmd_steps.specs.Phases.{configuration, input_of, input_limit};
 ghost use Rattle.kr_cmd_steps.specs.Ran.{Reports, Writes};
 ghost use Rattle.kr_cmd_messages.specs.Receipts.{receipt};
@@ -24,7 +24,8 @@ use std::alloc::Global;
 
 /// The configuration in a file.
 pub fn configure<W: World>(alloc: Global, world: &mut W, name: &str) -> Result<Settings, Stop>
-    ensures does { (a : Around) → Does (configuration name.now) (with_world (W.told world.old) a)
+    ensures does { (a : Environment) → Does (configuration name.now)
+        (with_world (W.told world.old) a)
         (with_world (W.told world.new) a) (rows_in result) }
     ensures links { (W.told world.new).links ≡ (W.told world.old).links }
 {
@@ -83,7 +84,7 @@ pub fn take_input<I: Source>(
     input: &mut I,
     direction: Direction,
 ) -> Result<Bytes, Stop>
-    ensures does { (a : Around) → Does (input_of direction)
+    ensures does { (a : Environment) → Does (input_of direction)
         (with_told_input (I.left input.old) (I.count input.old) a)
         (with_told_input (I.left input.new) (I.count input.new) a) result }
     ensures fits { IfOk result (λ bytes. length bytes ≤ input_limit direction) }

@@ -2,7 +2,7 @@
 ghost use Rattle.std.specs.Prelude.{◌≡◌, ◌⊎◌, [], ◌∷◌, ◌++◌, map, IfOk, OnOk, OnErr};
 ghost use Rattle.kr_config.specs.Kept.{rows_of};
 ghost use Rattle.kr_provider.specs.PluginOrder.{plugin_order};
-ghost use Rattle.kr_cmd_steps.specs.Around.{Around};
+ghost use Rattle.kr_cmd_steps.specs.Environment.{Environment};
 ghost use Rattle.kr_cmd_steps.specs.Phases.{linking_programs};
 ghost use Rattle.kr_cmd_messages.specs.declared.refusal.Refusal.{Refusal};
 ghost use Rattle.kr_cmd_messages.specs.declared.refusal.Stop.{Stop};
@@ -88,7 +88,7 @@ pub fn settings_programs(
     options: &Options,
     settings: &Settings,
 ) -> Result<Programs, Stop>
-    ensures does { (a : Around) → Does
+    ensures does { (a : Environment) → Does
         (linking_programs options.now (rows_of settings.now.entries.0)) a a result }
     ensures names { IfOk result (λ programs. map (λ program. program.plugin) programs
         ≡ plugin_order (rows_of settings.now.entries.0)) }

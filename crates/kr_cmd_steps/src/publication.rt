@@ -6,7 +6,7 @@ ghost use Rattle.kr_base.specs.Walks.{Talk};
 ghost use Rattle.kr_provider.specs.AskedLinks.{Among, AskedOnly};
 ghost use Rattle.kr_provider.specs.Names.{HasLinks, names_of};
 ghost use Rattle.kr_provider.specs.PluginOrder.{plugin_order};
-ghost use Rattle.kr_cmd_steps.specs.Around.{Around, IsUnheard, with_exchanges};
+ghost use Rattle.kr_cmd_steps.specs.Environment.{Environment, IsUnheard, with_exchanges};
 ghost use Rattle.kr_cmd_steps.specs.Plugins.{make_seeds};
 ghost use Rattle.kr_cmd_steps.specs.inner.Lent.{with_lent_dice, with_lent_links};
 ghost use Rattle.kr_cmd_steps.specs.inner.Phases.{Does};
@@ -28,14 +28,14 @@ pub fn publish_settings<L: Kms, D: Dice>(
 ) -> Result<Published, Stop>
     requires links { HasLinks (names_of L.link links.old) (rows_of settings.entries.0) }
     ensures heard { Talk (Among L.step) links.old links.new
-        (λ es. (a : Around) → Does
+        (λ es. (a : Environment) → Does
         (make_seeds (plugin_order (rows_of settings.entries.0)))
         (with_lent_links L.link 0 links.old
         (with_lent_dice 0 (D.left dice.old) (D.count dice.old) a))
         (with_lent_links L.link 0 links.new
         (with_lent_dice 0 (D.left dice.new) (D.count dice.new) (with_exchanges es a)))
         (seeds_in result)) }
-    ensures does { (a : Around) → IsUnheard a → Does
+    ensures does { (a : Environment) → IsUnheard a → Does
         (make_seeds (plugin_order (rows_of settings.entries.0)))
         (with_lent_links L.link 0 links.old
         (with_lent_dice 0 (D.left dice.old) (D.count dice.old) a))

@@ -6,7 +6,7 @@ ghost use Rattle.kr_store.specs.Rows.{check_in, delete_of, live, put_of};
 ghost use Rattle.kr_store.specs.declared.answers.PutNo.{PutNo};
 ghost use Rattle.kr_kms.specs.Outside.{KeepsFiles, KeepsObjects};
 ghost use Rattle.kr_kms.specs.declared.world.WorldCall.{WorldCall};
-ghost use Rattle.kr_cmd_steps.specs.Around.{Around};
+ghost use Rattle.kr_cmd_steps.specs.Environment.{Environment};
 ghost use Rattle.kr_cmd_steps.specs.Phases.{adding, stored_on};
 ghost use Rattle.kr_cmd_steps.specs.inner.Lent.{with_lent_tape};
 ghost use Rattle.kr_cmd_steps.specs.inner.Phases.{Does, AskedFor};
@@ -114,10 +114,11 @@ pub fn settle_tape<W: World, A: Drop>(
 
 /// Loads the store of a tape. A tape that is refused comes back.
 pub fn load_store<T: Tape>(alloc: Global, tape: T, object: Object) -> Result<Store<T>, (Stop, T)>
-    ensures ok { IfOk result (λ store. (name : List ℕ) (a : Around) → Does (stored_on object name)
+    ensures ok { IfOk result (λ store. (name : List ℕ) (a : Environment)
+        → Does (stored_on object name)
         (with_lent_tape name (T.told tape) (T.count tape) a)
         (with_lent_tape name store.told store.count a) (Ok (stored_of store))) }
-    ensures err { IfErr result (λ refused. (name : List ℕ) (a : Around)
+    ensures err { IfErr result (λ refused. (name : List ℕ) (a : Environment)
         → Does (stored_on object name)
         (with_lent_tape name (T.told tape) (T.count tape) a)
         (with_lent_tape name (T.told refused.1) (T.count refused.1) a) (Err refused.0)) }
@@ -146,7 +147,7 @@ pub fn add_put<T: Tape>(
     requires resource { IsResource resource.now }
     requires stored { length stored ≤ value_limit }
     requires within { store.old.limit ≡ store_limit }
-    ensures does { (name : List ℕ) (a : Around) →
+    ensures does { (name : List ℕ) (a : Environment) →
         let row = put_of path.now resource.now stored (check_in store.old.format check) in Does
         (adding object name (stored_of store.old) row)
         (with_lent_tape name store.old.told store.old.count a)
@@ -171,7 +172,7 @@ pub fn add_delete<T: Tape>(store: &mut Store<T>, object: Object, path: &str) -> 
     requires path { IsPath path.now }
     requires live { IsSome (live store.old.rows path.now) }
     requires within { store.old.limit ≡ store_limit }
-    ensures does { (name : List ℕ) (a : Around) →
+    ensures does { (name : List ℕ) (a : Environment) →
         let row = delete_of path.now in Does (adding object name (stored_of store.old) row)
         (with_lent_tape name store.old.told store.old.count a)
         (with_lent_tape name store.new.told store.new.count a)

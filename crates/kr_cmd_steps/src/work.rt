@@ -6,7 +6,7 @@ ghost use Rattle.kr_config.specs.Kept.{rows_of};
 ghost use Rattle.kr_provider.specs.AskedLinks.{Among};
 ghost use Rattle.kr_provider.specs.Names.{names_of};
 ghost use Rattle.kr_provider.specs.PluginOrder.{plugin_order};
-ghost use Rattle.kr_cmd_steps.specs.Around.{Around, with_exchanges, with_world};
+ghost use Rattle.kr_cmd_steps.specs.Environment.{Environment, with_exchanges, with_world};
 ghost use Rattle.kr_cmd_steps.specs.ValueSteps.{bench_steps, working};
 ghost use Rattle.kr_cmd_steps.specs.Phases.{input_limit};
 ghost use Rattle.kr_cmd_steps.specs.Heard.{Heard};
@@ -52,7 +52,7 @@ pub fn make<W: World>(
     requires path { length task.now.path.now ≤ path_limit }
     requires fits { length bytes ≤ input_limit task.now.direction }
     ensures made { Heard W.Link.link W.lent W.took W.Link.step 0 (W.told world.old)
-        (W.told world.new) [] [] (λ es. (tapes : Tapes) (a : Around) → Does
+        (W.told world.new) [] [] (λ es. (tapes : Tapes) (a : Environment) → Does
         (bench_steps programs.now task.now.direction task.now.resource.now task.now.path.now
         (rows_of settings.entries.0) bytes)
         (with_world (with_tapes tapes (W.told world.old)) a)
@@ -96,7 +96,7 @@ fn make_linked<W: World>(
     requires fits { length bytes ≤ input_limit task.now.direction }
     ensures made { Heard W.Link.link W.lent W.took W.Link.step 0 (W.told world.old)
         (W.told world.new) links result.1
-        (λ es. (tapes : Tapes) (a : Around) → Does
+        (λ es. (tapes : Tapes) (a : Environment) → Does
         (borrow_links programs.now (working task.now.direction task.now.resource.now
         task.now.path.now (rows_of settings.entries.0) bytes))
         (with_lent_links W.Link.link 0 links
@@ -182,7 +182,7 @@ fn make_on_bench<L: Kms, D: Dice>(
     requires path { length task.now.path.now ≤ path_limit }
     requires fits { length bytes ≤ input_limit task.now.direction }
     ensures made { Talk (Among L.step) links result.1
-        (λ es. (a : Around) → Does
+        (λ es. (a : Environment) → Does
         (working task.now.direction task.now.resource.now task.now.path.now
         (rows_of settings.entries.0) bytes)
         (with_lent_links L.link 0 links (with_lent_dice 0 (D.left dice) (D.count dice) a))

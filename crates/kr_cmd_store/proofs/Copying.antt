@@ -13,7 +13,7 @@ use Rattle.kr_store.specs.declared.format.Format.{Format}
 use Rattle.kr_store.specs.declared.format.Format.TheVariants.{Two}
 use Rattle.kr_store.specs.declared.rows.LogRow.{LogRow}
 use Rattle.kr_store.specs.declared.rows.Row as stored
-use Rattle.kr_cmd_steps.specs.Around.{Around}
+use Rattle.kr_cmd_steps.specs.Environment.{Environment}
 use Rattle.kr_cmd_steps.specs.Phases.{adding}
 use Rattle.kr_cmd_steps.specs.StoreSteps.{copying, migrated_row, reader_check}
 use Rattle.kr_cmd_steps.specs.StoreFiles.{Stored, with_row}
@@ -23,11 +23,11 @@ use Rattle.kr_cmd_steps.specs.inner.Phases.{Does}
 use Rattle.kr_cmd_steps.specs.inner.Tapes.{HasOneMore, grown_by, stored_of}
 use Rattle.kr_cmd_messages.specs.declared.refusal.Object.TheVariants.{Target}
 use Rattle.kr_cmd_messages.specs.declared.refusal.Stop.{Stop}
-use Rattle.kr_cmd_steps.proofs.Goes.{given, goes_on, stops}
+use Rattle.kr_cmd_steps.proofs.RunTo.{given, goes_on, stops}
 use Rattle.kr_cmd_store.proofs.MigratedRows.{follows_at, live_of, next_of, one_more_of, row_there}
 
 -- as another line that is the same
-pub as_line : (name : List ℕ) (store : Stored) {line other : LogRow} {old new : Around}
+pub as_line : (name : List ℕ) (store : Stored) {line other : LogRow} {old new : Environment}
     (result : Result (Unit {0}) Stop) → other ≡ line
     → Does (adding Target name store line) old new (grown_by line store result)
     → Does (adding Target name store other) old new (grown_by other store result)
@@ -113,7 +113,7 @@ module _ (config : List ConfigEntry) (source : List LogRow) where
   -- so many are copied, and what copying the rest does completes it
   pub record IsCopying (number : ℕ) (start now : Kept) : Type 0 where
     pub copied : HasCopied config source number now
-    pub onward : (name : List ℕ) (a new : Around) (result : Result Stored Stop)
+    pub onward : (name : List ℕ) (a new : Environment) (result : Result Stored Stop)
         → Does (copying name (stored_of now) (drop number lines))
         (with_lent_tape name now.told now.count a) new result
         → Does (copying name (stored_of start) lines)
@@ -136,7 +136,7 @@ module _ (config : List ConfigEntry) (source : List LogRow) where
       -- what a row of this revision does
       abbrev DoesOne : Result (Unit {0}) Stop → Type 0
       DoesOne result = (row : LogRow) → log_row_at source (number + 1) ≡ Some row
-          → (name : List ℕ) (a : Around) → Does (adding Target name (stored_of now) (line_of row))
+          → (name : List ℕ) (a : Environment) → Does (adding Target name (stored_of now) (line_of row))
           (with_lent_tape name now.told now.count a) (with_lent_tape name new.told new.count a)
           (grown_by (line_of row) (stored_of now) result)
 
@@ -172,7 +172,7 @@ module _ (config : List ConfigEntry) (source : List LogRow) where
             (with_lent_tape name new.told new.count a) end result) (add-one number) d))));
       }
 
-      pub copies_not : (stop : Stop) → DoesOne (Err stop) → (name : List ℕ) (a : Around)
+      pub copies_not : (stop : Stop) → DoesOne (Err stop) → (name : List ℕ) (a : Environment)
           → Does (copying name (stored_of start) lines)
           (with_lent_tape name start.told start.count a)
           (with_lent_tape name new.told new.count a) (Err stop)
@@ -185,7 +185,7 @@ module _ (config : List ConfigEntry) (source : List LogRow) where
           (one next_row.0 row_is name a)))
 
     pub copies_all : (done : Unit {0}) → length source ≤ number → IsNew start
-        → (name : List ℕ) (a : Around) → Does (copying name (stored_of start) lines)
+        → (name : List ℕ) (a : Environment) → Does (copying name (stored_of start) lines)
         (with_lent_tape name start.told start.count a)
         (with_lent_tape name now.told now.count a)
         (all_grown lines (stored_of start) (Ok done))
@@ -195,7 +195,7 @@ module _ (config : List ConfigEntry) (source : List LogRow) where
         (subst (λ s. Does (copying name (stored_of now) []) (Out now) (Out now) (Ok s)) all_there
         (given (stored_of now) (Out now))))
       where
-        Out : Kept → Around
+        Out : Kept → Environment
         Out store = with_lent_tape name store.told store.count a
 
         none_left : drop number lines ≡ []

@@ -3,7 +3,7 @@ use Rattle.std.proofs.Common.{◌≡◌, List, ℕ, Result, Ok, Err, refl, sym, 
 use Rattle.kr_store.specs.Rows.{live}
 use Rattle.kr_store.specs.declared.rows.LogRow.{LogRow}
 use Rattle.kr_store.specs.declared.rows.Row.{Row}
-use Rattle.kr_cmd_steps.specs.Around.{Around}
+use Rattle.kr_cmd_steps.specs.Environment.{Environment}
 use Rattle.kr_cmd_steps.specs.Phases.{by_result, with_memory}
 use Rattle.kr_cmd_steps.specs.StoreSteps.{row_found}
 use Rattle.kr_cmd_steps.specs.Steps.{refuse}
@@ -12,17 +12,17 @@ use Rattle.kr_cmd_steps.specs.inner.Tapes.{IsLookedUp}
 use Rattle.kr_cmd_messages.specs.declared.refusal.Refusal.{Refusal}
 use Rattle.kr_cmd_messages.specs.declared.refusal.Stop.{Stop}
 use Rattle.kr_cmd_messages.specs.declared.refusal.Stop.TheVariants.{Words, Refused, Fault, NoMemory}
-use Rattle.kr_cmd_steps.proofs.Goes.{given, home_refl, reach}
+use Rattle.kr_cmd_steps.proofs.RunTo.{given, home_refl, reach}
 use Rattle.kr_cmd_steps.proofs.Made.{remembers}
 use Rattle.kr_cmd_steps.proofs.Works.{lacks}
 
-pub refused_so : {A : Type 0} (why other : Refusal) (a : Around) → why ≡ other
+pub refused_so : {A : Type 0} (why other : Refusal) (a : Environment) → why ≡ other
     → Does {A = A} (refuse other) a a (Err (Refused why))
 refused_so {A} why other a same =
     subst (λ x. Does {A = A} (refuse x) a a (Err (Refused why))) same
     (record { home = home_refl a; ends = λ left s. reach left (refl, refl) s })
 
-pub looks_up : (path : List ℕ) (rows : List LogRow) (a : Around) (result : Result Row Stop)
+pub looks_up : (path : List ℕ) (rows : List LogRow) (a : Environment) (result : Result Row Stop)
     → IsLookedUp rows path result
     → Does (with_memory (by_result (row_found path (live rows path)))) a a result
 looks_up path rows a (Ok row) is =

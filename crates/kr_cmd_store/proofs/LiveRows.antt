@@ -9,12 +9,12 @@ use Rattle.kr_store.specs.declared.rows.Row.{Row}
 use Rattle.kr_store.specs.Rows.{AreRows, IsRow}
 use Rattle.kr_store.specs.Stores.{IsListing, IsNext}
 use Rattle.kr_store.proofs.Listings.{nexts_are_listing}
-use Rattle.kr_cmd_steps.specs.Around.{Around}
+use Rattle.kr_cmd_steps.specs.Environment.{Environment}
 use Rattle.kr_cmd_steps.specs.Steps.{find, give}
 use Rattle.kr_cmd_steps.specs.inner.Phases.{Does}
 use Rattle.kr_cmd_steps.specs.inner.Tapes.{walk_path}
 use Rattle.kr_cmd_messages.specs.declared.refusal.Stop.{Stop}
-use Rattle.kr_cmd_steps.proofs.Goes.{home_refl, reach}
+use Rattle.kr_cmd_steps.proofs.RunTo.{home_refl, reach}
 use Rattle.kr_cmd_store.specs.inner.Verifying.{IsWithin, ListsRows}
 use Rattle.kr_cmd_store.proofs.Walk.{Passes, follow, passes_more}
 
@@ -61,7 +61,7 @@ kept_all format rows kept are so_far end = nexts_are_listing format rows kept ar
 
 -- ---- steps
 
-pub live_found : (rows : List LogRow) (a : Around) (result : Result (List Row) Stop)
+pub live_found : (rows : List LogRow) (a : Environment) (result : Result (List Row) Stop)
     → ListsRows rows result → Does (find (List Row) (IsListing rows) give) a a result
 live_found rows a (Ok live) is = record {
   home = home_refl a;

@@ -6,19 +6,19 @@ use Rattle.kr_config.specs.Kept.{ConfigEntry, rows_of}
 use Rattle.kr_config.specs.declared.settings.Settings.{Settings}
 use Rattle.kr_kms.specs.Outside.{Outside, KeepsFiles, KeepsObjects}
 use Rattle.kr_kms.specs.declared.world.WorldCall.TheVariants.{File}
-use Rattle.kr_cmd_steps.specs.Around.{Around, with_world}
+use Rattle.kr_cmd_steps.specs.Environment.{Environment, with_world}
 use Rattle.kr_cmd_steps.specs.Phases.{configuration}
 use Rattle.kr_cmd_steps.specs.StoreSteps.{configurations}
 use Rattle.kr_cmd_steps.specs.inner.Lent.{Tapes, with_tapes}
 use Rattle.kr_cmd_steps.specs.inner.Phases.{Does, AskedFor, Configures, rows_in}
 use Rattle.kr_cmd_messages.specs.declared.refusal.Stop.{Stop}
 use Rattle.kr_cmd_messages.specs.declared.refusal.Stop.TheVariants.{Words, Refused, Fault, NoMemory}
-use Rattle.kr_cmd_steps.proofs.Goes.{reach, goes_on, stops, configures, home_refl}
+use Rattle.kr_cmd_steps.proofs.RunTo.{reach, goes_on, stops, configures, home_refl}
 
 -- ---- one of them
 
 module _ {old new : Outside} (files : KeepsFiles old new) (objects : KeepsObjects old new)
-    (tapes : Tapes) (a : Around) where
+    (tapes : Tapes) (a : Environment) where
   moved : (name : List ℕ) (result : Result Settings Stop) → Configures old new name result
       → Configures (with_tapes tapes old) (with_tapes tapes new) name result
   moved name (Ok settings) c = c
@@ -37,7 +37,7 @@ module _ {old new : Outside} (files : KeepsFiles old new) (objects : KeepsObject
 
 -- ---- all of them
 
-pub no_room : (rows : List (Option (List ConfigEntry))) (names : List (List ℕ)) (a : Around)
+pub no_room : (rows : List (Option (List ConfigEntry))) (names : List (List ℕ)) (a : Environment)
     → Does (configurations rows names) a a (Err NoMemory)
 no_room rows [] a =
     record { home = home_refl a; ends = λ left s. inr (reach left (inl (refl, refl)) s) }
@@ -48,7 +48,7 @@ no_room rows (name ∷ names) a =
 pub record IsLoading (names : List (List ℕ)) (number : ℕ) (rows : List (Option (List ConfigEntry)))
     (old mid : Outside) : Type 0 where
   pub objects : KeepsObjects old mid
-  pub onward : (tapes : Tapes) (a new : Around) (result : Result (List (Option (List ConfigEntry))) Stop)
+  pub onward : (tapes : Tapes) (a new : Environment) (result : Result (List (Option (List ConfigEntry))) Stop)
       → Does (configurations rows (drop number names)) (with_world (with_tapes tapes mid) a) new
       result
       → Does (configurations [] names) (with_world (with_tapes tapes old) a) new result
@@ -95,7 +95,7 @@ module _ {names : List (List ℕ)} {number : ℕ} {rows : List (Option (List Con
 
     pub loads_not : (stop : Stop) → Configures mid new name (Err stop)
         → AskedFor {T = Settings} mid.asked new.asked (File name) (Err stop)
-        → (tapes : Tapes) (a : Around)
+        → (tapes : Tapes) (a : Environment)
         → Does (configurations [] names) (with_world (with_tapes tapes old) a)
         (with_world (with_tapes tapes new) a) (Err stop)
     loads_not stop c q tapes a = so_far.onward tapes a _ (Err stop)
@@ -105,17 +105,17 @@ module _ {names : List (List ℕ)} {number : ℕ} {rows : List (Option (List Con
         (λ r. configurations (rows ++ Some r ∷ []) (drop (number + 1) names)) stop
         (configures_behind files objects tapes a name (Err stop) c q)))
 
-  pub lacks_room : (tapes : Tapes) (a : Around)
+  pub lacks_room : (tapes : Tapes) (a : Environment)
       → Does (configurations [] names) (with_world (with_tapes tapes old) a)
       (with_world (with_tapes tapes mid) a) (Err NoMemory)
   lacks_room tapes a = so_far.onward tapes a _ (Err NoMemory)
       (no_room rows (drop number names) (with_world (with_tapes tapes mid) a))
 
-  pub loads_all : length names ≤ number → (tapes : Tapes) (a : Around)
+  pub loads_all : length names ≤ number → (tapes : Tapes) (a : Environment)
       → Does (configurations [] names) (with_world (with_tapes tapes old) a)
       (with_world (with_tapes tapes mid) a) (Ok rows)
   loads_all whole tapes a =
-      let now : Around = with_world (with_tapes tapes mid) a in
+      let now : Environment = with_world (with_tapes tapes mid) a in
       so_far.onward tapes a now (Ok rows)
       (subst (λ l. Does (configurations rows l) now now (Ok rows))
       (sym (drop_all number names whole))

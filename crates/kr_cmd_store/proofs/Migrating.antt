@@ -10,10 +10,10 @@ use Rattle.kr_store.specs.Stores.{Kept}
 use Rattle.kr_store.specs.declared.format.Format.{Format}
 use Rattle.kr_store.specs.declared.format.Format.TheVariants.{One, Two}
 use Rattle.kr_store.specs.declared.rows.LogRow.{LogRow}
-use Rattle.kr_cmd_steps.specs.Around.{Around, Stays, Reaches, Ends}
+use Rattle.kr_cmd_steps.specs.Environment.{Environment, IsStateOf, StepsEndAt, Ends}
 use Rattle.kr_cmd_steps.specs.Phases.{by_result, silently, stored_on, with_memory}
 use Rattle.kr_cmd_steps.specs.StoreSteps.{copied_into, copying, migrated_line, migrated_row, source_on, target_on, target_read}
-use Rattle.kr_cmd_steps.specs.Steps.{Steps, read_tape, find, give, and_then, scanning, Point, Left, Goes}
+use Rattle.kr_cmd_steps.specs.Steps.{Steps, read_tape, find, give, and_then, scanning, Point, StepState, RunTo}
 use Rattle.kr_cmd_steps.specs.StoreFiles.{Stored, IsSource, IsStored, IsTarget, begins_new, none_there, unless_there}
 use Rattle.kr_cmd_steps.specs.inner.Lent.{with_lent_tape}
 use Rattle.kr_cmd_store.specs.inner.Migrating.{all_grown, has_new_bytes}
@@ -26,7 +26,7 @@ use Rattle.kr_cmd_messages.specs.declared.refusal.Refusal.{Refusal}
 use Rattle.kr_cmd_messages.specs.declared.refusal.Refusal.TheVariants.{NotEmpty, NotOld}
 use Rattle.kr_cmd_messages.specs.declared.refusal.Stop.{Stop}
 use Rattle.kr_cmd_messages.specs.declared.refusal.Stop.TheVariants.{Words, Refused, Fault, NoMemory}
-use Rattle.kr_cmd_steps.proofs.Goes.{reach, by_point, by_goes, given, goes_on, home_refl, stops}
+use Rattle.kr_cmd_steps.proofs.RunTo.{reach, by_point, by_goes, given, goes_on, home_refl, stops}
 use Rattle.kr_cmd_steps.proofs.Loading.{agrees_there, count_here, counted_tape, tape_here, tape_home, tape_rose}
 use Rattle.kr_cmd_steps.proofs.Points.{IsShort}
 use Rattle.kr_cmd_steps.proofs.ValueRead.{no_bytes}
@@ -64,9 +64,9 @@ some_there (byte ∷ bytes) some = refl
 -- ---- steps that end the command as others do
 
 module _ {A : Type 0} (first second : Steps A)
-    (short : (p : Point A) (end left : Left) → IsShort p → Goes p end first left
-    → Goes p end second left) where
-  stopped_at : (left : Left) (old new : Around) (stop : Stop) → Ends first left old new (Err stop)
+    (short : (p : Point A) (end left : StepState) → IsShort p → RunTo p end first left
+    → RunTo p end second left) where
+  stopped_at : (left : StepState) (old new : Environment) (stop : Stop) → Ends first left old new (Err stop)
       → Ends second left old new (Err stop)
   stopped_at left old new (Words why) r = r
   stopped_at left old new (Refused why) r = reach r.end (short _ _ _ tt r.goes) r.stays
@@ -76,15 +76,15 @@ module _ {A : Type 0} (first second : Steps A)
       inl (call, may, reach r.end (short _ _ _ tt r.goes) r.stays)
   stopped_at left old new NoMemory (inr r) = inr (reach r.end (short _ _ _ tt r.goes) r.stays)
 
-  stopped_as : {old new : Around} (stop : Stop) → Does first old new (Err stop)
+  stopped_as : {old new : Environment} (stop : Stop) → Does first old new (Err stop)
       → Does second old new (Err stop)
   stopped_as {old} {new} stop d = record {
     home = d.home;
     ends = λ left s. stopped_at left old new stop (d.ends left s);
   }
 
-source_short : (name : List ℕ) (p : Point Stored) (end left : Left) → IsShort p
-    → Goes p end (stored_on Store name) left → Goes p end (source_on name) left
+source_short : (name : List ℕ) (p : Point Stored) (end left : StepState) → IsShort p
+    → RunTo p end (stored_on Store name) left → RunTo p end (source_on name) left
 source_short name p end left short (inl at) = inl at
 source_short name p end left short (inr (bytes, agrees, inl at)) = inr (bytes, agrees, inl at)
 source_short name p end left short (inr (bytes, agrees, inr (Ok store, is, at))) =
@@ -92,7 +92,7 @@ source_short name p end left short (inr (bytes, agrees, inr (Ok store, is, at)))
 source_short name p end left short (inr (bytes, agrees, inr (Err why, is, at))) =
     inr (bytes, agrees, inr (Err why, (Err why, is, refl), at))
 
-pub source_stops : (name : List ℕ) {old new : Around} (stop : Stop)
+pub source_stops : (name : List ℕ) {old new : Environment} (stop : Stop)
     → Does (stored_on Store name) old new (Err stop) → Does (source_on name) old new (Err stop)
 source_stops name stop d =
     stopped_as (stored_on Store name) (source_on name) (source_short name) stop d
@@ -101,8 +101,8 @@ broken_there : (bytes : List ℕ) (why : Refusal) → unless_there bytes (Err wh
 broken_there [] why = refl
 broken_there (byte ∷ bytes) why = refl
 
-target_short : (name : List ℕ) (p : Point Stored) (end left : Left) → IsShort p
-    → Goes p end (stored_on Target name) left → Goes p end (target_read name) left
+target_short : (name : List ℕ) (p : Point Stored) (end left : StepState) → IsShort p
+    → RunTo p end (stored_on Target name) left → RunTo p end (target_read name) left
 target_short name p end left short (inl at) = inl at
 target_short name p end left short (inr (bytes, agrees, inl at)) = inr (bytes, agrees, inl at)
 target_short name p end left short (inr (bytes, agrees, inr (Ok store, is, at))) =
@@ -113,7 +113,7 @@ target_short name p end left short (inr (bytes, agrees, inr (Err why, is, at))) 
   inr (Err why, (Err why, is, sym (broken_there bytes why)), at),
 )
 
-pub target_stops : (name : List ℕ) {old new : Around} (stop : Stop)
+pub target_stops : (name : List ℕ) {old new : Environment} (stop : Stop)
     → Does (stored_on Target name) old new (Err stop)
     → Does (target_read name) old new (Err stop)
 target_stops name stop d =
@@ -139,8 +139,8 @@ some_bytes (Some bytes) size e = (bytes, refl, sym e)
 abbrev pub sizing : (name : List ℕ) → Steps (Unit {0})
 sizing name = read_tape Target name (λ bytes. by_result (none_there bytes))
 
-module _ (name : List ℕ) (told : Option (List ℕ)) (before : ℕ) (a : Around) where
-  abbrev Lent : ℕ → Around
+module _ (name : List ℕ) (told : Option (List ℕ)) (before : ℕ) (a : Environment) where
+  abbrev Lent : ℕ → Environment
   Lent count = with_lent_tape name told count a
 
   -- what was made of all its bytes
@@ -148,9 +148,9 @@ module _ (name : List ℕ) (told : Option (List ℕ)) (before : ℕ) (a : Around
     abbrev reading : Steps Stored
     reading = read_tape object name (λ bytes. find (Result Stored Refusal) (Is bytes) by_result)
 
-    reads : {left : Left} (bytes : List ℕ) (count : ℕ) (read : Result Stored Refusal)
-        → before ≤ count → Agrees told bytes → Is bytes read → Stays left (Lent before)
-        → Reaches reading left (Lent count) (by_point read)
+    reads : {left : StepState} (bytes : List ℕ) (count : ℕ) (read : Result Stored Refusal)
+        → before ≤ count → Agrees told bytes → Is bytes read → IsStateOf left (Lent before)
+        → StepsEndAt reading left (Lent count) (by_point read)
     reads {left} bytes count read later is so s = reach left (inr (
       bytes,
       subst (λ t. Agrees t (Some bytes)) (sym (tape_here name told before a s))
@@ -237,9 +237,9 @@ module _ (name : List ℕ) (told : Option (List ℕ)) (before : ℕ) (a : Around
 
   -- ---- its length
 
-  sizes : {left : Left} (bytes : List ℕ) (count : ℕ) → before ≤ count → Agrees told bytes
-      → Stays left (Lent before)
-      → Reaches (sizing name) left (Lent count) (by_point (none_there bytes))
+  sizes : {left : StepState} (bytes : List ℕ) (count : ℕ) → before ≤ count → Agrees told bytes
+      → IsStateOf left (Lent before)
+      → StepsEndAt (sizing name) left (Lent count) (by_point (none_there bytes))
   sizes {left} bytes count later is s = reach left (inr (
     bytes,
     subst (λ t. Agrees t (Some bytes)) (sym (tape_here name told before a s))
@@ -253,12 +253,12 @@ module _ (name : List ℕ) (told : Option (List ℕ)) (before : ℕ) (a : Around
   sized count later none =
       let given = some_bytes told 0 none in record {
         home = tape_home name told before a count later;
-        ends = λ left s. subst (λ b. Reaches (sizing name) left (Lent count)
+        ends = λ left s. subst (λ b. StepsEndAt (sizing name) left (Lent count)
             (by_point (none_there b))) (no_bytes given.0 given.2)
             (sizes given.0 count later given.1 s);
       }
 
-  pub sized_then : (now : Option (List ℕ)) (count size : ℕ) {new : Around}
+  pub sized_then : (now : Option (List ℕ)) (count size : ℕ) {new : Environment}
       {result : Result Stored Stop} → before ≤ count → now ≡ told → size ≡ 0
       → IfSome told (λ bytes. size ≡ length bytes)
       → Does (target_read name) (with_lent_tape name now count a) new result
@@ -275,7 +275,7 @@ module _ (name : List ℕ) (told : Option (List ℕ)) (before : ℕ) (a : Around
   filled count size later told_size some =
       let given = some_bytes told size told_size in record {
         home = tape_home name told before a count later;
-        ends = λ left s. subst (λ r. Reaches (sizing name) left (Lent count) (by_point r))
+        ends = λ left s. subst (λ r. StepsEndAt (sizing name) left (Lent count) (by_point r))
             (some_there given.0 (omega (arith, given.2, some))
             ∙ ap (λ n. Err (NotEmpty n)) given.2)
             (sizes given.0 count later given.1 s);
@@ -326,10 +326,10 @@ module _ (told : Option (List ℕ)) (before : ℕ) (now : Option (List ℕ)) (co
     (later : before ≤ count) (same : now ≡ told) (none : size ≡ 0)
     (told_size : IfSome told (λ bytes. size ≡ length bytes)) where
   pub sized_ok : {T : Type 0} (result : Result Kept (Stop × T))
-      → IfOk result (λ store. (name : List ℕ) (a : Around) → Does (target_read name)
+      → IfOk result (λ store. (name : List ℕ) (a : Environment) → Does (target_read name)
       (with_lent_tape name now count a) (with_lent_tape name store.told store.count a)
       (Ok (stored_of store)))
-      → IfOk result (λ store. (name : List ℕ) (a : Around) → Does (target_on name)
+      → IfOk result (λ store. (name : List ℕ) (a : Environment) → Does (target_on name)
       (with_lent_tape name told before a) (with_lent_tape name store.told store.count a)
       (Ok (stored_of store)))
   sized_ok (Ok store) d = λ name a.
@@ -338,10 +338,10 @@ module _ (told : Option (List ℕ)) (before : ℕ) (now : Option (List ℕ)) (co
 
   pub sized_err : {T : Type 0} (told_of : T → Option (List ℕ)) (count_of : T → ℕ)
       (result : Result Kept (Stop × T))
-      → IfErr result (λ refused. (name : List ℕ) (a : Around) → Does (target_read name)
+      → IfErr result (λ refused. (name : List ℕ) (a : Environment) → Does (target_read name)
       (with_lent_tape name now count a)
       (with_lent_tape name (told_of refused.1) (count_of refused.1) a) (Err refused.0))
-      → IfErr result (λ refused. (name : List ℕ) (a : Around) → Does (target_on name)
+      → IfErr result (λ refused. (name : List ℕ) (a : Environment) → Does (target_on name)
       (with_lent_tape name told before a)
       (with_lent_tape name (told_of refused.1) (count_of refused.1) a) (Err refused.0))
   sized_err told_of count_of (Ok store) d = tt
@@ -350,13 +350,13 @@ module _ (told : Option (List ℕ)) (before : ℕ) (now : Option (List ℕ)) (co
 
 -- ---- what `migrate` answers
 
-remembered : {A : Type 0} (next : Steps A) {old new : Around} {result : Result A Stop}
+remembered : {A : Type 0} (next : Steps A) {old new : Environment} {result : Result A Stop}
     → Does next old new result → Does (with_memory next) old new result
 remembered next {old} d = goes_on (with_memory (give tt)) (λ (u : Unit {0}). next) tt
     (record { home = home_refl old; ends = λ left s. reach left (inr (tt, tt, (refl, refl))) s }) d
 
 pub migrated_all : (name : List ℕ) (config : List ConfigEntry) (source target : Stored)
-    {old new : Around} (copied : Result (Unit {0}) Stop) (line : List ℕ) (count : ℕ)
+    {old new : Environment} (copied : Result (Unit {0}) Stop) (line : List ℕ) (count : ℕ)
     → count ≡ length source.rows → line ≡ codes "migrated " ++ (decimal count ++ codes "\n")
     → Does (copying name target (map (migrated_row config) source.rows)) old new
     (all_grown (map (migrated_row config) source.rows) target copied)

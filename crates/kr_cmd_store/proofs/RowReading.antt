@@ -21,7 +21,7 @@ use Rattle.kr_provider.specs.declared.refusal.ValueNo.{ValueNo}
 use Rattle.kr_store.specs.declared.rows.Row.{Row}
 use Rattle.kr_cmd_messages.specs.declared.refusal.Stop.{Stop}
 use Rattle.kr_cmd_messages.specs.declared.refusal.Stop.TheVariants as stop
-use Rattle.kr_cmd_steps.specs.Around.{Around, with_exchanges}
+use Rattle.kr_cmd_steps.specs.Environment.{Environment, with_exchanges}
 use Rattle.kr_cmd_steps.specs.StoreSteps.{row_finding, row_findings}
 use Rattle.kr_cmd_steps.specs.ValueSteps.{value_read}
 use Rattle.kr_cmd_steps.specs.Phases.{with_memory}
@@ -31,7 +31,7 @@ use Rattle.kr_cmd_steps.specs.declared.finding.Finding.{Finding}
 use Rattle.kr_cmd_steps.specs.inner.Phases.{Does}
 use Rattle.kr_cmd_steps.specs.inner.Plugins.{NamesAnUnread}
 use Rattle.kr_cmd_steps.proofs.Frames.{Seen}
-use Rattle.kr_cmd_steps.proofs.Goes.{given, goes_on, stops}
+use Rattle.kr_cmd_steps.proofs.RunTo.{given, goes_on, stops}
 use Rattle.kr_cmd_steps.proofs.Made.{remembers}
 use Rattle.kr_cmd_steps.proofs.Hearing.{around_more, around_none}
 use Rattle.kr_cmd_steps.proofs.ValueRead.{IsValueEnd, keeping, value_does}
@@ -44,17 +44,17 @@ use Rattle.kr_cmd_store.specs.inner.Verifying.{IsRowRead, IsUnreadStop, NamesUnr
 
 module _ {L : Type 0} (link : L → Link) (row : Row) (p : Publication)
     (olds news : List L) (distinct : AreDistinct link olds) (dice : Option (List ℕ)) (count : ℕ)
-    (a : Around) (cache after : CacheState) (es : List Exchange) where
+    (a : Environment) (cache after : CacheState) (es : List Exchange) where
   abbrev Value : Steps (Result Opened ValueNo × CacheState)
   Value = value_read p.seeds (list_of p.rows row.resource) row.path row.stored cache
 
   abbrev next : Result Opened ValueNo × CacheState → Steps (Finding × CacheState)
   next read = give (finding_of read.0, read.1)
 
-  abbrev Before : Around
+  abbrev Before : Environment
   Before = Seen link a olds dice count
 
-  abbrev After : Around
+  abbrev After : Environment
   After = with_exchanges es (Seen link a news dice count)
 
   abbrev Unseals : Result Opened UnsealNo → Type 0
@@ -134,7 +134,7 @@ module _ (p : Publication) (row : Row) (rest : List Row) (first : CacheState) wh
   abbrev others : Finding × CacheState → Steps (List Finding)
   others found = with_memory (and_then (row_findings p rest found.1) (put_before found.0))
 
-  in_front : {mid new : Around} (finding : Finding) (kept : CacheState)
+  in_front : {mid new : Environment} (finding : Finding) (kept : CacheState)
       (result : Result (List Finding) Stop) → Does (row_findings p rest kept) mid new result
       → Does (and_then (row_findings p rest kept) (put_before finding)) mid new
       (behind (finding ∷ []) result)
@@ -143,8 +143,8 @@ module _ (p : Publication) (row : Row) (rest : List Row) (first : CacheState) wh
   in_front finding kept (Err why) d =
       stops (row_findings p rest kept) (put_before finding) why d
 
-  module _ {old mid : Around} where
-    row_then : {new : Around} (finding : Finding) (kept : CacheState)
+  module _ {old mid : Environment} where
+    row_then : {new : Environment} (finding : Finding) (kept : CacheState)
         (result : Result (List Finding) Stop)
         → Does (row_finding p row first) old mid (Ok (finding, kept))
         → Does (row_findings p rest kept) mid new result
@@ -165,24 +165,24 @@ module _ (p : Publication) (row : Row) (rest : List Row) (first : CacheState) wh
 -- what reading the rest of the rows does, with what is kept then, completes what reading all of
 -- them does, with what was kept first
 abbrev pub Completes : List Row → (first : CacheState) → (at : ℕ) → List Finding
-    → (kept : CacheState) → Around → Around → Publication → Type 0
+    → (kept : CacheState) → Environment → Environment → Publication → Type 0
 Completes rows first at findings kept old now p =
-    (new : Around) (result : Result (List Finding) Stop)
+    (new : Environment) (result : Result (List Finding) Stop)
     → Does (row_findings p (drop at rows) kept) now new result
     → Does (row_findings p rows first) old new (behind findings result)
 
-abbrev pub Finds : List Row → CacheState → Around → Around → Result (List Finding) Stop
+abbrev pub Finds : List Row → CacheState → Environment → Environment → Result (List Finding) Stop
     → Publication → Type 0
 Finds rows first old new result p = Does (row_findings p rows first) old new result
 
-completes_none : (p : Publication) (rows : List Row) (first : CacheState) (a : Around)
+completes_none : (p : Publication) (rows : List Row) (first : CacheState) (a : Environment)
     → Completes rows first 0 [] first a a p
 completes_none p rows first a = λ new result d.
     subst (λ r. Does (row_findings p rows first) a new r) (sym (behind_none result)) d
 
 module _ (p : Publication) (rows : List Row) (first : CacheState) (row : Row) (at : ℕ)
     (next_is : drop at rows ≡ row ∷ drop (at + 1) rows) (findings : List Finding)
-    (kept : CacheState) {old now next : Around}
+    (kept : CacheState) {old now next : Environment}
     (so_far : Completes rows first at findings kept old now p) where
   completes_more : (finding : Finding) (then : CacheState)
       → Does (row_finding p row kept) now next (Ok (finding, then))
@@ -207,7 +207,7 @@ module _ (p : Publication) (rows : List Row) (first : CacheState) (row : Row) (a
       (row_stops p row (drop (at + 1) rows) kept why d))
 
 completes_all : (p : Publication) (rows : List Row) (first : CacheState) (at : ℕ)
-    (findings : List Finding) (kept : CacheState) {old now : Around}
+    (findings : List Finding) (kept : CacheState) {old now : Environment}
     → Completes rows first at findings kept old now p → length rows ≤ at
     → Finds rows first old now (Ok findings) p
 completes_all p rows first at findings kept {old} {now} so_far whole =
@@ -219,7 +219,7 @@ completes_all p rows first at findings kept {old} {now} so_far whole =
 
 module _ {L D : Type 0} (link : L → Link) (left : D → Option (List ℕ))
     (count : D → ℕ) where
-  abbrev pub Held : BenchState L D → Around → Around
+  abbrev pub Held : BenchState L D → Environment → Environment
   Held bench a = Seen link a bench.links (left bench.dice) (count bench.dice)
 
   -- ---- one row of the bench
@@ -254,11 +254,11 @@ module _ {L D : Type 0} (link : L → Link) (left : D → Option (List ℕ))
         (subst (λ x. IfSome published (Read x path stored es)) r u))
 
     module _ (es : List Exchange) where
-      abbrev Reads : Around → Result (Finding × CacheState) Stop → Publication → Type 0
+      abbrev Reads : Environment → Result (Finding × CacheState) Stop → Publication → Type 0
       Reads a result p = Does (row_finding p row old.cache) (Held old a)
           (Held new (with_exchanges es a)) result
 
-      same_dice : (p : Publication) (a : Around) (result : Result (Finding × CacheState) Stop)
+      same_dice : (p : Publication) (a : Environment) (result : Result (Finding × CacheState) Stop)
           → Does (row_finding p row old.cache) (Held old a)
           (with_exchanges es (Seen link a new.links (left old.dice) (count old.dice))) result
           → Reads a result p
@@ -270,7 +270,7 @@ module _ {L D : Type 0} (link : L → Link) (left : D → Option (List ℕ))
           → IfSome published (Unsealed row.resource row.path row.stored)
           → IfSome published (Read row.resource row.path row.stored es)
           → (result : Result Finding Unread) → result ≡ value_finding opened
-          → IfOk result (λ finding. (a : Around)
+          → IfOk result (λ finding. (a : Environment)
           → IfSome published (Reads a (Ok (finding, new.cache))))
       row_found None u r (Ok finding) is = λ a. tt
       row_found (Some p) u r (Ok finding) is = λ a. same_dice p a (Ok (finding, new.cache))
@@ -282,7 +282,7 @@ module _ {L D : Type 0} (link : L → Link) (left : D → Option (List ℕ))
           → IfSome published (Unsealed row.resource row.path row.stored)
           → IfSome published (Read row.resource row.path row.stored es)
           → (result : Result Finding Unread) → result ≡ value_finding opened
-          → IfErr result (λ why. (end : Stop) (a : Around) → IsUnreadStop link new.links why end
+          → IfErr result (λ why. (end : Stop) (a : Environment) → IsUnreadStop link new.links why end
           → IfSome published (Reads a (Err end)))
       row_unread published u r (Ok finding) is = tt
       row_unread None u r (Err why) is = λ end a s. tt
@@ -330,7 +330,7 @@ module _ {L D : Type 0} (link : L → Link) (left : D → Option (List ℕ))
   module _ (step : L → Exchange → L → Type 0) (rows : List Row) (initial : BenchState L D) where
     -- so many rows were read by these exchanges
     abbrev pub IsSoFar : (at : ℕ) → List Finding → BenchState L D → List Exchange → Type 0
-    IsSoFar at findings bench es = (a : Around) → IfSome initial.published
+    IsSoFar at findings bench es = (a : Environment) → IfSome initial.published
         (Completes rows initial.cache at findings bench.cache (Held initial a)
         (Held bench (with_exchanges es a)))
 
@@ -343,7 +343,7 @@ module _ {L D : Type 0} (link : L → Link) (left : D → Option (List ℕ))
 
     -- what all of them come to
     abbrev pub FindsAll : List L → D → Result (List Finding) Stop → List Exchange → Type 0
-    FindsAll links dice result es = (a : Around) → IfSome initial.published
+    FindsAll links dice result es = (a : Environment) → IfSome initial.published
         (Finds rows initial.cache (Held initial a)
         (Seen link (with_exchanges es a) links (left dice) (count dice)) result)
 
@@ -361,7 +361,7 @@ module _ {L D : Type 0} (link : L → Link) (left : D → Option (List ℕ))
       all = ap (λ l. length l) none;
     }
       where
-        each : (published : Option Publication) (a : Around) → IfSome published
+        each : (published : Option Publication) (a : Environment) → IfSome published
             (Completes rows bench.cache 0 [] bench.cache (Held bench a) (Held bench a))
         each None a = tt
         each (Some p) a = completes_none p rows bench.cache (Held bench a)
@@ -395,24 +395,24 @@ module _ {L D : Type 0} (link : L → Link) (left : D → Option (List ℕ))
           (IsRowRead link left count row bench after result) Be initial.links bench.links
           after.links so_far.talk read so
 
-      abbrev Found : Result (Finding × CacheState) Stop → Around → List Exchange → Publication
+      abbrev Found : Result (Finding × CacheState) Stop → Environment → List Exchange → Publication
           → Type 0
       Found end a fs p = Does (row_finding p row bench.cache) (Held bench a)
           (Held after (with_exchanges fs a)) end
 
-      found_first : (end : Result (Finding × CacheState) Stop) (a : Around) (fs : List Exchange)
+      found_first : (end : Result (Finding × CacheState) Stop) (a : Environment) (fs : List Exchange)
           → IfSome bench.published (Found end a fs) → IfSome initial.published (Found end a fs)
       found_first end a fs = subst (λ o. IfSome o (Found end a fs)) so_far.published
 
       -- a finding, where one was made
-      found_so : (finding : Finding) → result ≡ Ok finding → (a : Around) (fs : List Exchange)
+      found_so : (finding : Finding) → result ≡ Ok finding → (a : Environment) (fs : List Exchange)
           → IsRowRead link left count row bench after result fs
           → IfSome initial.published (Found (Ok (finding, after.cache)) a fs)
       found_so finding is a fs one = found_first (Ok (finding, after.cache)) a fs
-          (subst (λ r. IfOk r (λ finding. (a : Around)
+          (subst (λ r. IfOk r (λ finding. (a : Environment)
           → IfSome bench.published (Found (Ok (finding, after.cache)) a fs))) is one.found a)
 
-      in_one : (Is : Around → Type 0) (es fs : List Exchange) (a : Around)
+      in_one : (Is : Environment → Type 0) (es fs : List Exchange) (a : Environment)
           → Is (with_exchanges fs (with_exchanges es a)) → Is (with_exchanges (es ++ fs) a)
       in_one Is es fs a = subst Is (around_more es fs a)
 
@@ -461,7 +461,7 @@ module _ {L D : Type 0} (link : L → Link) (left : D → Option (List ℕ))
             (λ p c d. completes_stopped p rows initial.cache row at next_row findings bench.cache
             c end d)
             (so a) (found_first (Err end) (with_exchanges es a) fs
-            (subst (λ r. IfErr r (λ why. (end : Stop) (a : Around)
+            (subst (λ r. IfErr r (λ why. (end : Stop) (a : Environment)
             → IsUnreadStop link after.links why end
             → IfSome bench.published (Found (Err end) a fs))) is one.unread end
             (with_exchanges es a) h)))))

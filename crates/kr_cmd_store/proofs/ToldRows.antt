@@ -11,7 +11,7 @@ use Rattle.kr_store.specs.declared.rows.Row as stored
 use Rattle.kr_cmd_messages.specs.declared.refusal.Outcome.{Outcome}
 use Rattle.kr_cmd_messages.specs.declared.refusal.Stop.{Stop}
 use Rattle.kr_cmd_messages.specs.declared.refusal.Stop.TheVariants.{NoMemory}
-use Rattle.kr_cmd_steps.specs.Around.{Around}
+use Rattle.kr_cmd_steps.specs.Environment.{Environment}
 use Rattle.kr_cmd_steps.specs.StoreSteps.{row_findings, telling_findings, verifying_by, verifying_with}
 use Rattle.kr_cmd_steps.specs.Plugins.{make_seeds}
 use Rattle.kr_cmd_steps.specs.ValueSteps.{none_kept}
@@ -21,14 +21,14 @@ use Rattle.kr_cmd_steps.specs.declared.finding.Finding.{Finding}
 use Rattle.kr_cmd_steps.specs.declared.programs.Program.{Program}
 use Rattle.kr_cmd_steps.specs.inner.Phases.{Does}
 use Rattle.kr_cmd_steps.proofs.Frames.{Seen}
-use Rattle.kr_cmd_steps.proofs.Goes.{given, goes_on, home_refl, reach, stops}
+use Rattle.kr_cmd_steps.proofs.RunTo.{given, goes_on, home_refl, reach, stops}
 use Rattle.kr_cmd_steps.proofs.Made.{remembers, seeded, unseeded}
 use Rattle.kr_cmd_steps.proofs.Works.{lacks}
 use Rattle.kr_cmd_store.specs.inner.Verifying.{IsToldOf}
 
 -- of equal parts the same is done
 pub verified_by : {programs others : List Program} {live kept : List stored.Row} (rows : List ConfigEntry)
-    {old new : Around} {result : Result Outcome Stop} → others ≡ programs → kept ≡ live
+    {old new : Environment} {result : Result Outcome Stop} → others ≡ programs → kept ≡ live
     → Does (verifying_with others rows kept) old new result
     → Does (verifying_with programs rows live) old new result
 verified_by {programs} {kept = kept} rows {old} {new} {result} p l d =
@@ -41,7 +41,7 @@ module _ (p : Publication) (live : List stored.Row) (kept : CacheState) where
   abbrev pub Told : Steps Outcome
   Told = and_then (row_findings p live kept) (telling_findings live)
 
-  pub told_by : {old new : Around} (found : Result (List Finding) Stop)
+  pub told_by : {old new : Environment} (found : Result (List Finding) Stop)
       (told : Result Outcome Stop) → Does (row_findings p live kept) old new found
       → IsToldOf live found told → Does Told old new told
   told_by {old} {new} (Ok findings) (Ok made) d is =
@@ -57,7 +57,7 @@ module _ (p : Publication) (live : List stored.Row) (kept : CacheState) where
       (stops (row_findings p live kept) (telling_findings live) why d)
 
 -- there was no memory to read them
-untold : (p : Publication) (live all : List stored.Row) (kept : CacheState) (a : Around)
+untold : (p : Publication) (live all : List stored.Row) (kept : CacheState) (a : Environment)
     → Does (and_then (row_findings p live kept) (telling_findings all)) a a (Err NoMemory)
 untold p [] all kept a = lacks (give (findings_outcome all [])) a
 untold p (row ∷ live) all kept a =
@@ -69,21 +69,21 @@ module _ (rows : List ConfigEntry) (live : List stored.Row) where
   abbrev next : List SeedRow → Steps Outcome
   next seeds = Told (record { rows = rows; seeds = seeds }) live none_kept
 
-  abbrev Verifying : Around → Around → Result Outcome Stop → Type 0
+  abbrev Verifying : Environment → Environment → Result Outcome Stop → Type 0
   Verifying old new result = Does (verifying_by rows live) old new result
 
-  pub unmade : (a : Around) → Verifying a a (Err NoMemory)
+  pub unmade : (a : Environment) → Verifying a a (Err NoMemory)
   unmade a = lacks (and_then (make_seeds (plugin_order rows)) next) a
 
-  module _ {others : List ConfigEntry} (same : others ≡ rows) {old mid : Around} where
+  module _ {others : List ConfigEntry} (same : others ≡ rows) {old mid : Environment} where
     pub unpublished : (stop : Stop) → Does (make_seeds (plugin_order others)) old mid (Err stop)
         → Verifying old mid (Err stop)
     unpublished stop d = unseeded next same stop d
 
 module _ {L D : Type 0} (link : L → Link) (left : D → Option (List ℕ)) (count : D → ℕ)
     (rows others : List ConfigEntry) (live : List stored.Row) (same : others ≡ rows) (olds mids : List L)
-    (old mid : D) (a b : Around) where
-  abbrev With : Around → List L → D → Around
+    (old mid : D) (a b : Environment) where
+  abbrev With : Environment → List L → D → Environment
   With around links dice = Seen link around links (left dice) (count dice)
 
   -- what wasn't adopted is back
@@ -100,7 +100,7 @@ module _ {L D : Type 0} (link : L → Link) (left : D → Option (List ℕ)) (co
       (With b mids mid))))
 
   -- a bench adopted the publication, and read the rows
-  pub read_stored_rows : (c : Around) (p : Publication) (published : Option Publication) (benched back : List L)
+  pub read_stored_rows : (c : Environment) (p : Publication) (published : Option Publication) (benched back : List L)
       (held dice : D) (kept : CacheState) (found : Result (List Finding) Stop)
       (told : Result Outcome Stop)
       → published ≡ Some p → p.rows ≡ others → benched ≡ mids → held ≡ mid → kept ≡ none_kept

@@ -7,7 +7,7 @@ use Rattle.kr_kms.specs.Outside.{Outside, at_key, same_name, HandsOut, TakesBack
 use Rattle.kr_kms.proofs.Lent.{names_decide}
 use Rattle.kr_kms.specs.declared.world.WorldCall.TheVariants.{Tape}
 use Rattle.kr_kms.specs.declared.world.Access.{Access}
-use Rattle.kr_cmd_steps.specs.Around.{Around, with_lent, with_world}
+use Rattle.kr_cmd_steps.specs.Environment.{Environment, with_lent, with_world}
 use Rattle.kr_cmd_steps.specs.Phases.{settled_for, tape_for}
 use Rattle.kr_cmd_steps.specs.Steps.{Steps}
 use Rattle.kr_cmd_steps.specs.inner.Lent.{Tapes, with_lent_tape, with_tapes}
@@ -119,7 +119,7 @@ module _ (name other : List ℕ) (told : Option (List ℕ)) (count : ℕ)
   -- it is borrowed for what follows, and is settled before it is back
   pub settles_behind : (object : Object) (access : Access) {old out : Outside}
       {given : Option (List ℕ)} {first : ℕ} (mid new : Outside) (back : Option (List ℕ))
-      (last : ℕ) (a : Around) {B : Type 0} (next : Steps B)
+      (last : ℕ) (a : Environment) {B : Type 0} (next : Steps B)
       (made result : Result B Stop) → LentTape other access old out given first
       → ReturnsSettled other object mid new back last made result
       → Does next (with_lent_tape other given first (with_lent_tape name told count
@@ -133,7 +133,7 @@ module _ (name other : List ℕ) (told : Option (List ℕ)) (count : ℕ)
       (returns_behind object mid new back last made result returned) works
 
   -- it isn't lent
-  pub not_lent_behind : (access : Access) {old new : Outside} (a : Around) {B : Type 0}
+  pub not_lent_behind : (access : Access) {old new : Outside} (a : Environment) {B : Type 0}
       {next : Steps B} (stop : Stop) → KeepsFiles old new → KeepsObjects old new
       → NoTape old new other access stop → AskedUnless old.asked new.asked (Tape other access) stop
       → Does (tape_for other access next) (with_lent_tape name told count (with_world old a))

@@ -2,7 +2,7 @@
 ghost use Rattle.std.specs.Prelude.{◌≡◌, ◌≤◌, length};
 ghost use Rattle.kr_config.specs.Kept.{rows_of};
 ghost use Rattle.kr_opening.specs.Replicas.{IsFirstIn, rows_in};
-ghost use Rattle.kr_cmd_steps.specs.Around.{Around, with_world};
+ghost use Rattle.kr_cmd_steps.specs.Environment.{Environment, with_world};
 ghost use Rattle.kr_cmd_steps.specs.Commands.{judging};
 ghost use Rattle.kr_cmd_steps.specs.StoreSteps.{judging_on, judging_by, judging_at};
 ghost use Rattle.kr_cmd_steps.specs.Judgements.{verdict_done};
@@ -26,7 +26,7 @@ use std::alloc::Global;
 /// Judges the reload.
 pub fn judge<W: World>(alloc: Global, words: &JudgeWords, world: &mut W) -> Result<Outcome, Stop>
     requires replicas { HasReplicas words.now.options }
-    ensures does { (a : Around) → Does (judging words.now)
+    ensures does { (a : Environment) → Does (judging words.now)
         (with_world (W.told world.old) a) (with_world (W.told world.new) a) result }
     ensures links { (W.told world.new).links ≡ (W.told world.old).links }
 {
@@ -48,7 +48,7 @@ fn judge_on_tape<W: World>(
     world: &mut W,
 ) -> (Result<Outcome, Stop>, W::Tap)
     requires { HasReplicas words.now.options }
-    ensures made { (name : Name) (a : Around) → Does (judging_on name words.now.options)
+    ensures made { (name : Name) (a : Environment) → Does (judging_on name words.now.options)
         (with_lent_tape name (W.Tap.told tape) (W.Tap.count tape)
         (with_world (W.told world.old) a))
         (with_lent_tape name (W.Tap.told result.1) (W.Tap.count result.1)
@@ -72,7 +72,7 @@ fn judge_stored<W: World, T: Tape>(
     world: &mut W,
 ) -> Result<Outcome, Stop>
     requires { HasReplicas words.now.options }
-    ensures made { (tapes : Tapes) (a : Around)
+    ensures made { (tapes : Tapes) (a : Environment)
         → Does (judging_by words.now.options store.now.rows)
         (with_world (with_tapes tapes (W.told world.old)) a)
         (with_world (with_tapes tapes (W.told world.new)) a) result }
@@ -100,7 +100,7 @@ fn judgement_outcome<T: Tape>(
 ) -> Result<Outcome, Stop>
     requires first { IsFirstIn replicas.now.0 }
     requires few { length replicas.now.0 ≤ 16 }
-    ensures { (a : Around) → Does (judging_at store.now.rows (rows_in replicas.now.0) replica
+    ensures { (a : Environment) → Does (judging_at store.now.rows (rows_in replicas.now.0) replica
         (rows_of settings.now.entries.0)) a a result }
 {
     match replica_verdict(alloc, store, replicas, replica, settings) {

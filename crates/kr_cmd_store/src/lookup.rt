@@ -2,7 +2,7 @@
 //! publish, unseal.
 ghost use Rattle.std.specs.Prelude.{◌≡◌, ◌≤◌, ◌⊎◌, [], List, ℕ, IfOk, length};
 ghost use Rattle.kr_base.specs.Limits.{path_limit, value_limit};
-ghost use Rattle.kr_cmd_steps.specs.Around.{Around, with_exchanges, with_world};
+ghost use Rattle.kr_cmd_steps.specs.Environment.{Environment, with_exchanges, with_world};
 ghost use Rattle.kr_cmd_steps.specs.Commands.{getting};
 ghost use Rattle.kr_cmd_steps.specs.Phases.{read_for};
 ghost use Rattle.kr_cmd_steps.specs.StoreSteps.{row_on};
@@ -25,7 +25,7 @@ use std::alloc::Global;
 pub fn get<W: World>(alloc: Global, words: &Lookup, world: &mut W) -> Result<Outcome, Stop>
     requires path { length words.now.path ≤ path_limit }
     ensures { Heard W.Link.link W.lent W.took W.Link.step 0
-        (W.told world.old) (W.told world.new) [] [] (λ es. (a : Around)
+        (W.told world.old) (W.told world.new) [] [] (λ es. (a : Environment)
         → Does (getting words.now)
         (with_world (W.told world.old) a)
         (with_world (W.told world.new) (with_exchanges es a)) result) }
@@ -57,7 +57,7 @@ fn find_row<W: World>(
     store: &Text,
     path: &Text,
 ) -> Result<Shared<Row>, Stop>
-    ensures does { (a : Around) → Does (read_for store.now (row_on store.now path.now))
+    ensures does { (a : Environment) → Does (read_for store.now (row_on store.now path.now))
         (with_world (W.told world.old) a) (with_world (W.told world.new) a) result }
     ensures fits { IfOk result (λ row. length row.stored ≤ value_limit) }
     ensures links { (W.told world.new).links ≡ (W.told world.old).links }
@@ -74,7 +74,7 @@ fn find_row<W: World>(
 
 /// The live row of the path in the store on a tape, which comes back.
 fn find_on_tape<T: Tape>(alloc: Global, tape: T, path: &Text) -> (Result<Shared<Row>, Stop>, T)
-    ensures does { (name : List ℕ) (a : Around) → Does (row_on name path.now)
+    ensures does { (name : List ℕ) (a : Environment) → Does (row_on name path.now)
         (with_lent_tape name (T.told tape) (T.count tape) a)
         (with_lent_tape name (T.told result.1) (T.count result.1) a) result.0 }
     ensures fits { IfOk result.0 (λ row. length row.stored ≤ value_limit) }

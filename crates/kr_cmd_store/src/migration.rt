@@ -8,7 +8,7 @@ ghost use Rattle.kr_provider.specs.Readers.{reader_in};
 ghost use Rattle.kr_store.specs.Rows.{check_in, delete_of, live, log_row_at, put_of};
 ghost use Rattle.kr_store.specs.declared.format.Format as formats;
 ghost use Rattle.kr_store.specs.declared.rows.LogRow.{LogRow};
-ghost use Rattle.kr_cmd_steps.specs.Around.{Around, with_world};
+ghost use Rattle.kr_cmd_steps.specs.Environment.{Environment, with_world};
 ghost use Rattle.kr_cmd_steps.specs.Phases.{adding};
 ghost use Rattle.kr_cmd_steps.specs.StoreSteps.{copied_into, copying, migrated_row, migrating_into, reader_check, source_on, target_on, target_read};
 ghost use Rattle.kr_cmd_steps.specs.Commands.{migrating};
@@ -35,7 +35,7 @@ use std::alloc::Global;
 /// Copies a store of the first format into a new one of the second.
 pub fn migrate<W: World>(alloc: Global, words: &Migration, world: &mut W) -> Result<Outcome, Stop>
     requires apart { same_name words.now.store words.now.to ≡ false }
-    ensures does { (a : Around) → Does (migrating words.now)
+    ensures does { (a : Environment) → Does (migrating words.now)
         (with_world (W.told world.old) a) (with_world (W.told world.new) a) result }
     ensures links { (W.told world.new).links ≡ (W.told world.old).links }
 {
@@ -61,7 +61,7 @@ fn migrate_tape<W: World>(
     world: &mut W,
     tape: W::Tap,
 ) -> (Result<Outcome, Stop>, W::Tap)
-    ensures made { (name : List ℕ) (a : Around) → same_name name to.now ≡ false → Does
+    ensures made { (name : List ℕ) (a : Environment) → same_name name to.now ≡ false → Does
         (and_then (source_on name) (migrating_into to.now (rows_of settings.now.entries.0)))
         (with_lent_tape name (W.Tap.told tape) (W.Tap.count tape) (with_world (W.told world.old) a))
         (with_lent_tape name (W.Tap.told result.1) (W.Tap.count result.1)
@@ -80,10 +80,10 @@ fn migrate_tape<W: World>(
 
 /// Loads a store that doesn't have the second format yet; one without bytes has none.
 fn load_source<T: Tape>(alloc: Global, tape: T) -> Result<Store<T>, (Stop, T)>
-    ensures ok { IfOk result (λ store. (name : List ℕ) (a : Around) → Does (source_on name)
+    ensures ok { IfOk result (λ store. (name : List ℕ) (a : Environment) → Does (source_on name)
         (with_lent_tape name (T.told tape) (T.count tape) a)
         (with_lent_tape name store.told store.count a) (Ok (stored_of store))) }
-    ensures err { IfErr result (λ refused. (name : List ℕ) (a : Around) → Does (source_on name)
+    ensures err { IfErr result (λ refused. (name : List ℕ) (a : Environment) → Does (source_on name)
         (with_lent_tape name (T.told tape) (T.count tape) a)
         (with_lent_tape name (T.told refused.1) (T.count refused.1) a) (Err refused.0)) }
 {
@@ -115,7 +115,7 @@ fn migrate_store<W: World>(
     source: &Store<W::Tap>,
     world: &mut W,
 ) -> Result<Outcome, Stop>
-    ensures made { (name : List ℕ) (told : Option (List ℕ)) (count : ℕ) (a : Around)
+    ensures made { (name : List ℕ) (told : Option (List ℕ)) (count : ℕ) (a : Environment)
         → same_name name to.now ≡ false → Does
         (migrating_into to.now (rows_of settings.now.entries.0) (stored_of source.now))
         (with_lent_tape name told count (with_world (W.told world.old) a))
@@ -140,7 +140,7 @@ fn copy_onto_tape<S: Tape, T: Tape>(
     source: &Store<S>,
     tape: T,
 ) -> (Result<Outcome, Stop>, T)
-    ensures { (name : List ℕ) (a : Around) → Does (and_then (target_on name)
+    ensures { (name : List ℕ) (a : Environment) → Does (and_then (target_on name)
         (copied_into name (rows_of settings.now.entries.0) (stored_of source.now)))
         (with_lent_tape name (T.told tape) (T.count tape) a)
         (with_lent_tape name (T.told result.1) (T.count result.1) a) result.0 }
@@ -159,10 +159,10 @@ fn copy_onto_tape<S: Tape, T: Tape>(
 
 /// Loads a store that has no bytes yet.
 fn load_target<T: Tape>(alloc: Global, mut tape: T) -> Result<Store<T>, (Stop, T)>
-    ensures ok { IfOk result (λ store. (name : List ℕ) (a : Around) → Does (target_on name)
+    ensures ok { IfOk result (λ store. (name : List ℕ) (a : Environment) → Does (target_on name)
         (with_lent_tape name (T.told tape) (T.count tape) a)
         (with_lent_tape name store.told store.count a) (Ok (stored_of store))) }
-    ensures err { IfErr result (λ refused. (name : List ℕ) (a : Around) → Does (target_on name)
+    ensures err { IfErr result (λ refused. (name : List ℕ) (a : Environment) → Does (target_on name)
         (with_lent_tape name (T.told tape) (T.count tape) a)
         (with_lent_tape name (T.told refused.1) (T.count refused.1) a) (Err refused.0)) }
     ensures empty { IfOk result IsNew }
@@ -182,10 +182,11 @@ fn load_target<T: Tape>(alloc: Global, mut tape: T) -> Result<Store<T>, (Stop, T
 
 /// Loads a store of which the tape said that it has no bytes.
 fn load_empty<T: Tape>(alloc: Global, tape: T) -> Result<Store<T>, (Stop, T)>
-    ensures ok { IfOk result (λ store. (name : List ℕ) (a : Around) → Does (target_read name)
+    ensures ok { IfOk result (λ store. (name : List ℕ) (a : Environment) → Does (target_read name)
         (with_lent_tape name (T.told tape) (T.count tape) a)
         (with_lent_tape name store.told store.count a) (Ok (stored_of store))) }
-    ensures err { IfErr result (λ refused. (name : List ℕ) (a : Around) → Does (target_read name)
+    ensures err { IfErr result (λ refused. (name : List ℕ) (a : Environment)
+        → Does (target_read name)
         (with_lent_tape name (T.told tape) (T.count tape) a)
         (with_lent_tape name (T.told refused.1) (T.count refused.1) a) (Err refused.0)) }
     ensures empty { IfOk result IsNew }
@@ -208,7 +209,7 @@ fn copy_rows<S: Tape, T: Tape>(
     target: &mut Store<T>,
 ) -> Result<(), Stop>
     requires empty { IsNew target.old }
-    ensures { (name : List ℕ) (a : Around) →
+    ensures { (name : List ℕ) (a : Environment) →
         let rows = map (migrated_row (rows_of settings.now.entries.0)) source.now.rows in
         Does (copying name (stored_of target.old) rows)
         (with_lent_tape name target.old.told target.old.count a)
@@ -237,7 +238,7 @@ fn copy_row<S: Tape, T: Tape>(
     requires copied { HasCopied (rows_of settings.now.entries.0) source.now.rows (revision - 1)
         target.old }
     ensures does { (row : LogRow) → log_row_at source.now.rows revision ≡ Some row
-        → (name : List ℕ) (a : Around) →
+        → (name : List ℕ) (a : Environment) →
         let line = migrated_row (rows_of settings.now.entries.0) row in
         Does (adding objects.Object.Target name (stored_of target.old) line)
         (with_lent_tape name target.old.told target.old.count a)
@@ -261,7 +262,7 @@ fn copy_put<T: Tape>(settings: &Settings, row: &Row, target: &mut Store<T>) -> R
     requires stored { length row.now.stored ≤ value_limit }
     requires within { target.old.limit ≡ store_limit }
     requires format { target.old.format ≡ formats.Format.Two }
-    ensures does { (name : List ℕ) (a : Around) →
+    ensures does { (name : List ℕ) (a : Environment) →
         let line = migrated_put (rows_of settings.now.entries.0) row.now in
         Does (adding objects.Object.Target name (stored_of target.old) line)
         (with_lent_tape name target.old.told target.old.count a)
@@ -282,7 +283,7 @@ fn add_row<T: Tape>(target: &mut Store<T>, row: &Row, check: Check) -> Result<()
     requires resource { IsResource row.now.resource }
     requires stored { length row.now.stored ≤ value_limit }
     requires within { target.old.limit ≡ store_limit }
-    ensures does { (name : List ℕ) (a : Around) →
+    ensures does { (name : List ℕ) (a : Environment) →
         let line = put_of row.now.path row.now.resource row.now.stored
         (check_in target.old.format check) in
         Does (adding objects.Object.Target name (stored_of target.old) line)
@@ -305,7 +306,7 @@ fn copy_delete<T: Tape>(target: &mut Store<T>, path: &str) -> Result<(), Stop>
     requires path { IsPath path.now }
     requires live { IsSome (live target.old.rows path.now) }
     requires within { target.old.limit ≡ store_limit }
-    ensures does { (name : List ℕ) (a : Around) →
+    ensures does { (name : List ℕ) (a : Environment) →
         let line = delete_of path.now in
         Does (adding objects.Object.Target name (stored_of target.old) line)
         (with_lent_tape name target.old.told target.old.count a)

@@ -5,7 +5,7 @@ ghost use Rattle.kr_config.specs.Kept.{rows_of};
 ghost use Rattle.kr_provider.specs.AskedLinks.{Among};
 ghost use Rattle.kr_provider.specs.Names.{AreDistinct, names_of};
 ghost use Rattle.kr_provider.specs.PluginOrder.{plugin_order};
-ghost use Rattle.kr_cmd_steps.specs.Around.{Around, with_exchanges, with_world};
+ghost use Rattle.kr_cmd_steps.specs.Environment.{Environment, with_exchanges, with_world};
 ghost use Rattle.kr_cmd_steps.specs.StoreSteps.{row_findings, verifying_by, verifying_with};
 ghost use Rattle.kr_cmd_steps.specs.Heard.{Heard};
 ghost use Rattle.kr_cmd_steps.specs.Plugins.{borrow_links};
@@ -40,7 +40,7 @@ pub fn read_by_links<W: World>(
         ≡ plugin_order (rows_of settings.entries.0) }
     requires within { All IsWithin rows.now }
     ensures { Heard W.Link.link W.lent W.took W.Link.step 0
-        (W.told world.old) (W.told world.new) [] [] (λ es. (a : Around)
+        (W.told world.old) (W.told world.new) [] [] (λ es. (a : Environment)
         → Does
         (verifying_with programs.now (rows_of settings.entries.0) rows.now)
         (with_world (W.told world.old) a)
@@ -75,7 +75,7 @@ fn read_linked<W: World>(
         ≡ plugin_order (rows_of settings.entries.0) }
     requires within { All IsWithin rows.now }
     ensures does { Heard W.Link.link W.lent W.took W.Link.step 0
-        (W.told world.old) (W.told world.new) links result.1 (λ es. (a : Around)
+        (W.told world.old) (W.told world.new) links result.1 (λ es. (a : Environment)
         → Does
         (borrow_links programs.now (verifying_by (rows_of settings.entries.0) rows.now))
         (with_lent_links W.Link.link 0 links
@@ -129,7 +129,7 @@ fn read_stored_rows<L: Kms, D: Dice>(
 ) -> (Result<Outcome, Stop>, Links<L>, D)
     requires links { names_of L.link links ≡ plugin_order (rows_of settings.entries.0) }
     requires within { All IsWithin rows.now }
-    ensures does { Talk (Among L.step) links result.1 (λ es. (a : Around)
+    ensures does { Talk (Among L.step) links result.1 (λ es. (a : Environment)
         → Does (verifying_by (rows_of settings.entries.0) rows.now)
         (with_lent_links L.link 0 links (with_lent_dice 0 (D.left dice) (D.count dice) a))
         (with_lent_links L.link 0 result.1
@@ -166,7 +166,7 @@ fn read_rows<L: Kms, D: Dice>(
     requires adopted { IsSome bench.published }
     requires distinct { AreDistinct L.link bench.links }
     requires within { All IsWithin rows.now }
-    ensures does { Talk (Among L.step) bench.links result.1 (λ es. (a : Around)
+    ensures does { Talk (Among L.step) bench.links result.1 (λ es. (a : Environment)
         → IfSome bench.published (λ p. Does (row_findings p rows.now bench.cache)
         (with_lent_links L.link 0 bench.links
         (with_lent_dice 0 (D.left bench.dice) (D.count bench.dice) a))

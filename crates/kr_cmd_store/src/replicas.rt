@@ -2,7 +2,7 @@
 ghost use Rattle.std.specs.Prelude.{◌≡◌, ◌++◌, ◌∷◌, [], IfOk, Some};
 ghost use Rattle.kr_words.specs.Grammar.{replicas_of};
 ghost use Rattle.kr_kms.specs.Outside.{KeepsObjects};
-ghost use Rattle.kr_cmd_steps.specs.Around.{Around, with_world};
+ghost use Rattle.kr_cmd_steps.specs.Environment.{Environment, with_world};
 ghost use Rattle.kr_cmd_messages.specs.Command.{replica_names};
 ghost use Rattle.kr_cmd_steps.specs.StoreSteps.{configurations};
 ghost use Rattle.kr_cmd_steps.specs.inner.Lent.{Tapes, with_tapes};
@@ -22,7 +22,7 @@ pub fn load_replicas<W: World>(
     options: &Options,
     world: &mut W,
 ) -> Result<List<Option<Shared<Settings>>>, Stop>
-    ensures loads { (tapes : Tapes) (a : Around)
+    ensures loads { (tapes : Tapes) (a : Environment)
         → Does (configurations [] (replica_names options.now))
         (with_world (with_tapes tapes (W.told world.old)) a)
         (with_world (with_tapes tapes (W.told world.new)) a) (replica_rows result) }

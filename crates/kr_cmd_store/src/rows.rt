@@ -1,6 +1,6 @@
 //! `list`: store, its live rows.
 ghost use Rattle.std.specs.Prelude.{◌≡◌, List, ℕ};
-ghost use Rattle.kr_cmd_steps.specs.Around.{Around, with_world};
+ghost use Rattle.kr_cmd_steps.specs.Environment.{Environment, with_world};
 ghost use Rattle.kr_cmd_steps.specs.Commands.{steps};
 ghost use Rattle.kr_cmd_steps.specs.StoreSteps.{listing_on};
 ghost use Rattle.kr_cmd_steps.specs.inner.Lent.{with_lent_tape};
@@ -15,7 +15,7 @@ use std::alloc::Global;
 
 /// Makes the text of the live rows of the store in a file.
 pub fn list<W: World>(alloc: Global, name: &str, world: &mut W) -> Result<Outcome, Stop>
-    ensures does { (a : Around) → Does (steps (Command.Rows name.now))
+    ensures does { (a : Environment) → Does (steps (Command.Rows name.now))
         (with_world (W.told world.old) a) (with_world (W.told world.new) a) result }
     ensures links { (W.told world.new).links ≡ (W.told world.old).links }
 {
@@ -30,7 +30,7 @@ pub fn list<W: World>(alloc: Global, name: &str, world: &mut W) -> Result<Outcom
 
 /// The text of the live rows of the store on a tape, which comes back.
 fn list_on_tape<T: Tape>(alloc: Global, tape: T) -> (Result<Outcome, Stop>, T)
-    ensures { (name : List ℕ) (a : Around) → Does (listing_on name)
+    ensures { (name : List ℕ) (a : Environment) → Does (listing_on name)
         (with_lent_tape name (T.told tape) (T.count tape) a)
         (with_lent_tape name (T.told result.1) (T.count result.1) a) result.0 }
 {

@@ -7,7 +7,7 @@ ghost use Rattle.kr_config.specs.Kept.{rows_of};
 ghost use Rattle.kr_provider.specs.PluginOrder.{plugin_order};
 ghost use Rattle.kr_provider.specs.Readers.{writer_of};
 ghost use Rattle.kr_store.specs.declared.rows.LogRow.{LogRow};
-ghost use Rattle.kr_cmd_steps.specs.Around.{Around, with_exchanges, with_world};
+ghost use Rattle.kr_cmd_steps.specs.Environment.{Environment, with_exchanges, with_world};
 ghost use Rattle.kr_opening.specs.Checks.{store_check};
 ghost use Rattle.kr_cmd_steps.specs.Commands.{putting};
 ghost use Rattle.kr_cmd_steps.specs.StoreSteps.{revision_line, sealed_into, stored_into};
@@ -43,7 +43,7 @@ pub fn put<W: World, I: Source>(
     requires path { IsPath words.now.path }
     requires resource { IsResource words.now.resource }
     ensures { Heard W.Link.link W.lent W.took W.Link.step 0
-        (W.told world.old) (W.told world.new) [] [] (λ es. (a : Around)
+        (W.told world.old) (W.told world.new) [] [] (λ es. (a : Environment)
         → Does (putting words.now store.now)
         (with_told_input (I.left input.old) (I.count input.old) (with_world (W.told world.old) a))
         (with_told_input (I.left input.new) (I.count input.new)
@@ -84,7 +84,7 @@ fn put_into_store<W: World>(
     requires resource { IsResource words.now.resource }
     requires fits { length bytes ≤ data_limit }
     ensures { Heard W.Link.link W.lent W.took W.Link.step 0
-        (W.told world.old) (W.told world.new) [] [] (λ es. (a : Around)
+        (W.told world.old) (W.told world.new) [] [] (λ es. (a : Environment)
         → Does (stored_into words.now store.now
         (rows_of settings.entries.0) programs.now bytes)
         (with_world (W.told world.old) a)
@@ -115,7 +115,7 @@ fn put_on_tape<W: World>(
     requires resource { IsResource words.now.resource }
     requires fits { length bytes ≤ data_limit }
     ensures made { Heard W.Link.link W.lent W.took W.Link.step 0
-        (W.told world.old) (W.told world.new) [] [] (λ es. (name : List ℕ) (a : Around)
+        (W.told world.old) (W.told world.new) [] [] (λ es. (name : List ℕ) (a : Environment)
         → Does
         (and_then (stored_on objects.Object.Store name) (sealed_into words.now name
         (rows_of settings.entries.0) programs.now bytes))

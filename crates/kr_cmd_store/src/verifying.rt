@@ -2,7 +2,7 @@
 //! publish, unseal each row.
 ghost use Rattle.std.specs.Prelude.{◌≡◌, [], All, IfOk, None};
 ghost use Rattle.std.specs.List.{last_or};
-ghost use Rattle.kr_cmd_steps.specs.Around.{Around, with_exchanges, with_world};
+ghost use Rattle.kr_cmd_steps.specs.Environment.{Environment, with_exchanges, with_world};
 ghost use Rattle.kr_cmd_steps.specs.StoreSteps.{live_on};
 ghost use Rattle.kr_cmd_steps.specs.Phases.{read_for};
 ghost use Rattle.kr_cmd_steps.specs.Commands.{verifying};
@@ -24,7 +24,7 @@ use std::alloc::Global;
 /// plugin is asked.
 pub fn verify<W: World>(alloc: Global, words: &Verification, world: &mut W) -> Result<Outcome, Stop>
     ensures { Heard W.Link.link W.lent W.took W.Link.step 0
-        (W.told world.old) (W.told world.new) [] [] (λ es. (a : Around)
+        (W.told world.old) (W.told world.new) [] [] (λ es. (a : Environment)
         → Does (verifying words.now)
         (with_world (W.told world.old) a)
         (with_world (W.told world.new) (with_exchanges es a)) result) }
@@ -42,7 +42,7 @@ pub fn verify<W: World>(alloc: Global, words: &Verification, world: &mut W) -> R
 
 /// The live rows of the store in a file, by their paths.
 fn find_rows<W: World>(alloc: Global, world: &mut W, name: &str) -> Result<List<Shared<Row>>, Stop>
-    ensures does { (a : Around) → Does (read_for name.now (live_on name.now))
+    ensures does { (a : Environment) → Does (read_for name.now (live_on name.now))
         (with_world (W.told world.old) a) (with_world (W.told world.new) a) (rows_listed result) }
     ensures within { IfOk result (λ rows. All IsWithin rows.0) }
     ensures links { (W.told world.new).links ≡ (W.told world.old).links }
@@ -58,7 +58,7 @@ fn find_rows<W: World>(alloc: Global, world: &mut W, name: &str) -> Result<List<
 
 /// The live rows of the store on a tape, which comes back.
 fn live_rows_on_tape<T: Tape>(alloc: Global, tape: T) -> (Result<List<Shared<Row>>, Stop>, T)
-    ensures does { (name : Name) (a : Around) → Does (live_on name)
+    ensures does { (name : Name) (a : Environment) → Does (live_on name)
         (with_lent_tape name (T.told tape) (T.count tape) a)
         (with_lent_tape name (T.told result.1) (T.count result.1) a) (rows_listed result.0) }
     ensures within { IfOk result.0 (λ rows. All IsWithin rows.0) }

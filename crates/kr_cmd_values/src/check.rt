@@ -1,7 +1,7 @@
 //! `check`: configuration, what it says.
 ghost use Rattle.std.specs.Prelude.{◌≡◌, Ok};
 ghost use Rattle.kr_config.specs.Kept.{rows_of};
-ghost use Rattle.kr_cmd_steps.specs.Around.{Around, with_world};
+ghost use Rattle.kr_cmd_steps.specs.Environment.{Environment, with_world};
 ghost use Rattle.kr_cmd_steps.specs.Check.{listing};
 ghost use Rattle.kr_cmd_steps.specs.Commands.{steps};
 ghost use Rattle.kr_cmd_steps.specs.inner.Phases.{Does, Yields};
@@ -21,7 +21,7 @@ pub fn check<W: World>(
     resource: &Option<Text>,
     world: &mut W,
 ) -> Result<Outcome, Stop>
-    ensures does { (a : Around) → Does (steps (Command.Check config.now resource.now))
+    ensures does { (a : Environment) → Does (steps (Command.Check config.now resource.now))
         (with_world (W.told world.old) a) (with_world (W.told world.new) a) result }
     ensures links { (W.told world.new).links ≡ (W.told world.old).links }
 {

@@ -2,7 +2,7 @@
 //! publish, seal or unseal.
 ghost use Rattle.std.specs.Prelude.{◌≡◌, ◌≤◌, [], length};
 ghost use Rattle.kr_base.specs.Limits.{path_limit};
-ghost use Rattle.kr_cmd_steps.specs.Around.{Around, with_exchanges, with_world};
+ghost use Rattle.kr_cmd_steps.specs.Environment.{Environment, with_exchanges, with_world};
 ghost use Rattle.kr_cmd_steps.specs.Commands.{converting};
 ghost use Rattle.kr_cmd_steps.specs.Heard.{Heard};
 ghost use Rattle.kr_cmd_steps.specs.inner.Lent.{with_told_input};
@@ -23,7 +23,7 @@ pub fn convert<W: World, I: Source>(
 ) -> Result<Outcome, Stop>
     requires path { length words.now.path ≤ path_limit }
     ensures { Heard W.Link.link W.lent W.took W.Link.step 0 (W.told world.old)
-        (W.told world.new) [] [] (λ es. (a : Around) → Does (converting words.now)
+        (W.told world.new) [] [] (λ es. (a : Environment) → Does (converting words.now)
         (with_told_input (I.left input.old) (I.count input.old) (with_world (W.told world.old) a))
         (with_told_input (I.left input.new) (I.count input.new)
         (with_world (W.told world.new) (with_exchanges es a))) result) }

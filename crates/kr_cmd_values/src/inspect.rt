@@ -2,7 +2,7 @@
 ghost use Rattle.std.specs.Prelude.{◌≡◌, ◌≢◌, ◌++◌, codes, decimal, Some, IfOk, map};
 ghost use Rattle.std.specs.List.{concat};
 ghost use Rattle.kr_envelope.specs.Limits.{number_of};
-ghost use Rattle.kr_cmd_steps.specs.Around.{Around};
+ghost use Rattle.kr_cmd_steps.specs.Environment.{Environment};
 ghost use Rattle.kr_cmd_steps.specs.Commands.{steps};
 ghost use Rattle.kr_cmd_steps.specs.Inspect.{kind_text, tag_line, annotation_line, object_lines, inspect_refusal};
 ghost use Rattle.kr_cmd_steps.specs.Inspect.{Inspects, ShowsBody};
@@ -20,7 +20,7 @@ use std::alloc::Global;
 
 /// Makes the text of what the input, a stored value, says of itself.
 pub fn inspect<I: Source>(alloc: Global, input: &mut I) -> Result<Outcome, Stop>
-    ensures { (a : Around) → Does (steps Command.Inspect)
+    ensures { (a : Environment) → Does (steps Command.Inspect)
         (with_told_input (I.left input.old) (I.count input.old) a)
         (with_told_input (I.left input.new) (I.count input.new) a) result }
 {

@@ -2,7 +2,7 @@
 ghost use Rattle.std.specs.Prelude.{◌≡◌, ◌≤◌, ℕ, List, Ok};
 ghost use Rattle.kr_config.specs.Kept.{ConfigEntry, rows_of};
 ghost use Rattle.kr_plan.specs.Plans.{IsPlan};
-ghost use Rattle.kr_cmd_steps.specs.Around.{Around, with_world};
+ghost use Rattle.kr_cmd_steps.specs.Environment.{Environment, with_world};
 ghost use Rattle.kr_cmd_steps.specs.Commands.{steps};
 ghost use Rattle.kr_cmd_steps.specs.PlanLines.{plan_text, ShowsPlan};
 ghost use Rattle.kr_cmd_steps.specs.inner.Phases.{Does, Yields};
@@ -23,7 +23,7 @@ use std::alloc::Global;
 pub fn plan<W: World>(alloc: Global, words: &Planning, world: &mut W) -> Result<Outcome, Stop>
     requires some { 1 ≤ words.now.replicas }
     requires few { words.now.replicas ≤ REPLICA_LIMIT }
-    ensures does { (a : Around) → Does (steps (Command.Plan words.now))
+    ensures does { (a : Environment) → Does (steps (Command.Plan words.now))
         (with_world (W.told world.old) a) (with_world (W.told world.new) a) result }
     ensures links { (W.told world.new).links ≡ (W.told world.old).links }
 {

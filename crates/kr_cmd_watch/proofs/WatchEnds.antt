@@ -27,11 +27,11 @@ use Rattle.kr_cmd_messages.specs.Receipts.{Receipt}
 use Rattle.kr_cmd_messages.specs.declared.refusal.Stop.{Stop}
 use Rattle.kr_cmd_messages.specs.declared.refusal.Stop.TheVariants.{Fault, NoMemory}
 use Rattle.kr_cmd_messages.specs.declared.watch_words.WatchWords.{WatchWords}
-use Rattle.kr_cmd_steps.specs.Around.{Around, left_of}
+use Rattle.kr_cmd_steps.specs.Environment.{Environment, step_state}
 use Rattle.kr_cmd_steps.specs.Ran.{WroteNothing}
 use Rattle.kr_cmd_steps.specs.inner.ProgramNames.{names_in}
 use Rattle.kr_cmd_steps.specs.Steps.{hearing}
-use Rattle.kr_cmd_steps.proofs.Goes.{home_trans, stays_refl}
+use Rattle.kr_cmd_steps.proofs.RunTo.{home_trans, stays_refl}
 use Rattle.kr_cmd_fleet.specs.FleetFiles.{FleetPlan}
 use Rattle.kr_cmd_fleet.specs.Fleets.{Begun, opening_of}
 use Rattle.kr_cmd_fleet.specs.declared.fleet.Record.{Record}
@@ -119,7 +119,7 @@ writes_so P Q output (Err other) h w = absurd w
 -- it stopped
 pub watch_stopped : {T L D : Type 0} {link : L → Link} {step : L → Exchange → L → Type 0}
     {lent took : ℕ → L → Type 0} {left : D → Option (List ℕ)} {count : D → ℕ}
-    {words : WatchWords} {old new : Around} {output : Receipt} {stop : Stop}
+    {words : WatchWords} {old new : Environment} {output : Receipt} {stop : Stop}
     → Stopped T link step lent took left count words.fleet true old new output stop
     → DidWatch T link step lent took left count words old new output (Err stop)
 watch_stopped s = record {
@@ -135,9 +135,9 @@ module _ (T : Type 0) {L D : Type 0} (link : L → Link)
     (step : L → Exchange → L → Type 0) (lent took : ℕ → L → Type 0)
     (left : D → Option (List ℕ)) (count : D → ℕ) (words : WatchWords) where
   -- the workers ran, and left this record
-  pub record HasLeft (old new : Around) (exchanges : List Exchange) (ran : Record) : Type 0 where
+  pub record HasLeft (old new : Environment) (exchanges : List Exchange) (ran : Record) : Type 0 where
     pub plan : FleetPlan
-    pub now : Around
+    pub now : Environment
     pub file : List ℕ
     pub store : List ℕ
     pub made : IsPlanned words.fleet plan old now file store
@@ -147,7 +147,7 @@ module _ (T : Type 0) {L D : Type 0} (link : L → Link)
 
 module _ {T L D : Type 0} {link : L → Link} {step : L → Exchange → L → Type 0}
     {lent took : ℕ → L → Type 0} {left : D → Option (List ℕ)} {count : D → ℕ}
-    {words : WatchWords} {old new : Around} {exchanges : List Exchange} {ran : Record}
+    {words : WatchWords} {old new : Environment} {exchanges : List Exchange} {ran : Record}
     (went : HasLeft T link step lent took left count words old new exchanges ran) where
   l : Leaves T link step lent took left count true went.made new exchanges went.asked
       words.fleet.store ran
@@ -204,7 +204,7 @@ module _ {T L D : Type 0} {link : L → Link} {step : L → Exchange → L → T
           record {
             begun = l.begun;
             mid = l.mid;
-            reaches = all.ends (left_of old) (stays_refl old);
+            reaches = all.ends (step_state old) (stays_refl old);
             since = all.home;
             exchanges = exchanges;
             heard = l.begins.0;

@@ -22,7 +22,7 @@ use Rattle.kr_cmd_messages.specs.declared.refusal.Object.TheVariants.{Output}
 use Rattle.kr_cmd_messages.specs.declared.refusal.Stop.{Stop}
 use Rattle.kr_cmd_messages.specs.declared.refusal.Stop.TheVariants.{Fault, NoMemory}
 use Rattle.kr_cmd_messages.specs.declared.watch_words.WatchWords.{WatchWords}
-use Rattle.kr_cmd_steps.specs.Around.{Around, IsHome, Reaches, left_of}
+use Rattle.kr_cmd_steps.specs.Environment.{Environment, IsHome, StepsEndAt, step_state}
 use Rattle.kr_cmd_steps.specs.Ran.{WroteNothing}
 use Rattle.kr_cmd_steps.specs.Steps.{gives, hearing}
 use Rattle.kr_cmd_fleet.specs.StartExchanges.{BeganWith, WereAsked, links_in}
@@ -99,11 +99,11 @@ module _ (T : Type 0) {L D : Type 0} (link : L → Link)
   -- The one history is that of a fleet, and what is shown of it was written. What the steps up to
   -- the workers asked of plugins, to publish and to read the live rows, is just what the first
   -- seat's links answered before the first worker had them
-  pub record StartsWatch (words : WatchWords) (old new : Around) (output : Receipt)
+  pub record StartsWatch (words : WatchWords) (old new : Environment) (output : Receipt)
       (result : Result Ending Stop) : Type 0 where
     pub begun : Begun
-    pub mid : Around
-    pub reaches : Reaches (watch_steps words.fleet) (left_of old) mid (gives begun)
+    pub mid : Environment
+    pub reaches : StepsEndAt (watch_steps words.fleet) (step_state old) mid (gives begun)
     pub since : IsHome old mid
     pub exchanges : List Exchange
     pub heard : mid.heard ≡ hearing exchanges old.heard
@@ -118,7 +118,7 @@ module _ (T : Type 0) {L D : Type 0} (link : L → Link)
     pub made : runs.made.exchanges ≡ exchanges
 
   -- how the call ended
-  abbrev pub EndsWatch : WatchWords → (old new : Around) → Receipt → Result Ending Stop
+  abbrev pub EndsWatch : WatchWords → (old new : Environment) → Receipt → Result Ending Stop
       → List Exchange → Type 0
   EndsWatch words old new output result exchanges =
       StopsBefore T link step left count (watch_steps words.fleet) words.fleet.store old new output
@@ -126,7 +126,7 @@ module _ (T : Type 0) {L D : Type 0} (link : L → Link)
       ⊎ ((start : StartsWatch words old new output result) × (start.exchanges ≡ exchanges))
 
   -- so these links came back
-  abbrev pub WatchBack : (begun back : List (List L)) → (words : WatchWords) (old new : Around)
+  abbrev pub WatchBack : (begun back : List (List L)) → (words : WatchWords) (old new : Environment)
       (output : Receipt) (result : Result Ending Stop) (exchanges : List Exchange)
       → EndsWatch words old new output result exchanges → Type 0
   WatchBack begun back words old new output result exchanges (inl stops) =
@@ -139,7 +139,7 @@ module _ (T : Type 0) {L D : Type 0} (link : L → Link)
   -- the links that were lent to the first seat answered, of all that were handed out; where the
   -- workers were started, it is just what those answered with which the first worker began (one
   -- list, that of `StartsWatch`)
-  pub record DidWatch (words : WatchWords) (old new : Around) (output : Receipt)
+  pub record DidWatch (words : WatchWords) (old new : Environment) (output : Receipt)
       (result : Result Ending Stop) : Type 0 where
     pub home : IsHome old new
     pub exchanges : List Exchange
@@ -151,7 +151,7 @@ module _ (T : Type 0) {L D : Type 0} (link : L → Link)
 -- what a call of `run` did for a watch
 pub record RanWatch (T : Type 0) {L D : Type 0} (link : L → Link)
     (step : L → Exchange → L → Type 0) (lent took : ℕ → L → Type 0)
-    (left : D → Option (List ℕ)) (count : D → ℕ) (words : WatchWords) (old new : Around)
+    (left : D → Option (List ℕ)) (count : D → ℕ) (words : WatchWords) (old new : Environment)
     (output errors : Receipt) (status : ℕ) : Type 0 where
   pub result : Result Ending Stop
   pub did : DidWatch T link step lent took left count words old new output result

@@ -1,7 +1,7 @@
 //! `watch`: the steps of `fleet`, at which the live rows are read before the core starts; then the
 //! journal goes through a watch, and what it shows is written.
 ghost use Rattle.std.specs.Prelude.{◌≡◌, ◌≤◌, IfOk};
-ghost use Rattle.kr_cmd_steps.specs.Around.{Around, with_exchanges, with_world};
+ghost use Rattle.kr_cmd_steps.specs.Environment.{Environment, with_exchanges, with_world};
 ghost use Rattle.kr_cmd_fleet.specs.StartExchanges.{Exchanges};
 ghost use Rattle.kr_cmd_messages.specs.Receipts.{receipt};
 ghost use Rattle.kr_cmd_watch.specs.Watchings.{DidWatch, WritesWatch, refused_at_least};
@@ -30,7 +30,7 @@ pub fn watch<R: Threads + Wait + Sync, W: World, O: Sink>(
     output: &mut O,
 ) -> Result<Ending, Stop>
     requires limit { 1 ≤ words.now.limit }
-    ensures did { (es : Exchanges) × ((a : Around)
+    ensures did { (es : Exchanges) × ((a : Environment)
         → DidWatch W.Tap W.Link.link W.Link.step W.lent W.took W.Rand.left W.Rand.count words.now
         (with_world (W.told world.old) a) (with_world (W.told world.new) (with_exchanges es a))
         (receipt (O.held output.old) (O.held output.new) (O.count output.old) (O.count output.new))

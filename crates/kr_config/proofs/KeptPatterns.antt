@@ -13,7 +13,7 @@ use Rattle.kr_config.specs.declared.pattern.Pattern.{Pattern}
 use Rattle.kr_config.specs.declared.pattern.Pattern.TheVariants.{Exact, Group, All}
 use Rattle.kr_config.specs.declared.refusal.Rule.TheVariants as rule
 use Rattle.kr_config.specs.declared.place.ConfigPlace.{ConfigPlace}
-use Rattle.kr_config.specs.Patterns.{resource_group, is_group, is_pattern, same, overlap, clash}
+use Rattle.kr_config.specs.Patterns.{resource_group, is_group_name, is_pattern, same, overlap, clash}
 use Rattle.kr_config.specs.Kept.{apart}
 use Rattle.kr_base.specs.Numbering.{next_place}
 use Rattle.kr_config.specs.Walk.{breach, place_at, walk, spelled_pattern, star_pattern, place_pattern}
@@ -26,7 +26,7 @@ pub record Patterns (counted : ℕ) (ps : List Pattern) : Type 0 where
   pub stand : apart clash ps ≡ true
   pub few : counted + length ps ≤ 256
 
-form_by : (a b c r : Bool) (group text : List ℕ) (p : Pattern) → is_group group ≡ c
+form_by : (a b c r : Bool) (group text : List ℕ) (p : Pattern) → is_group_name group ≡ c
     → is_resource text ≡ r
     → (if a then (if b then Some All else if c then Some (Group group) else None) else if r
     then Some (Exact text) else None) ≡ Some p → is_pattern p ≡ true
@@ -39,7 +39,7 @@ form : (text : List ℕ) (p : Pattern) → spelled_pattern text ≡ Some p → i
 unfolding spelled_pattern star_pattern
 form text p h = form_by (list_any (λ byte. byte == 0x2E) text
     && bytes_eq (before_first (λ byte. byte == 0x2E) text) (codes "*"))
-    (bytes_eq (resource_group text) (codes "*")) (is_group (resource_group text)) (is_resource text)
+    (bytes_eq (resource_group text) (codes "*")) (is_group_name (resource_group text)) (is_resource text)
     (resource_group text) text p refl refl h
 
 place_keeps : (counted : ℕ) (place : ConfigPlace) (before : List Pattern) (p : Pattern)

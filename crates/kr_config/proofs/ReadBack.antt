@@ -34,7 +34,7 @@ use Rattle.kr_config.specs.declared.who.Who.{Who}
 use Rattle.kr_config.specs.declared.who.Who.TheVariants.{Identity, Aescbc, Aesgcm, Kms}
 use Rattle.kr_config.specs.Kept.{ConfigEntry, apart, keeps, keeps_patterns, keeps_providers, keeps_row, patterns_in, count_entry_keys, kms_in}
 use Rattle.kr_config.specs.Meanings.{begins_json, json_rows, MeansConfig, MeansBy, TextMeans}
-use Rattle.kr_config.specs.Patterns.{clash, resource_group, is_group, is_pattern, overlap, same}
+use Rattle.kr_config.specs.Patterns.{clash, resource_group, is_group_name, is_pattern, overlap, same}
 use Rattle.kr_config.specs.Providers.{is_key, is_kms, is_provider, is_secret, rivals}
 use Rattle.kr_config.specs.Walk.{breach, over_limit, place_at, start, counts_in, counts_of, then_unless_breach, walk, walk_each, list_of_items, named_list, spelled_pattern, star_pattern, place_pattern, pattern_step, place_provider, place_key, place_plugin, identity_step, of_cipher, name_at, secret_at, key_step, keys_step, version_at, endpoint_at, plugin_step, kind_step, element_step, config_entry, entry_step, config_in}
 use Rattle.kr_config.proofs.Inversions.{left, right}
@@ -99,19 +99,19 @@ exact_back text h =
     else if is_resource text then Some (Exact text) else None) (and_false (list_any is_dot text))
     ∙ ap (λ v. if v then Some (Exact text) else None) h
 
-not_every : (group : List ℕ) → is_group group ≡ true → bytes_eq group (codes "*") ≡ false
+not_every : (group : List ℕ) → is_group_name group ≡ true → bytes_eq group (codes "*") ≡ false
 not_every group h = by (bytes_eq group (codes "*")) refl
   where
     by : (v : Bool) → bytes_eq group (codes "*") ≡ v → bytes_eq group (codes "*") ≡ false
-    by true e = absurd (false≢true (subst (λ g. is_group g ≡ true)
+    by true e = absurd (false≢true (subst (λ g. is_group_name g ≡ true)
         ((bytes_eq-Decides group (codes "*")).0 e) h))
     by false e = e
 
-group_back : (group : List ℕ) → is_group group ≡ true
+group_back : (group : List ℕ) → is_group_name group ≡ true
     → spelled_pattern (codes "*." ++ group) ≡ Some (Group group)
 unfolding spelled_pattern star_pattern
 group_back group h =
-    ap (λ v. if v then Some Every else if is_group group then Some (Group group) else None)
+    ap (λ v. if v then Some Every else if is_group_name group then Some (Group group) else None)
     (not_every group h)
     ∙ ap (λ v. if v then Some (Group group) else None) h
 

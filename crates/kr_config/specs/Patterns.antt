@@ -30,12 +30,13 @@ covers_rest All = true
 
 -- the group of a pattern is empty, or labels parted by dots, which is the form of a resource; `*.`
 -- before it counts among the 253 bytes
-abbrev pub is_group : List ℕ → Bool
-is_group group = (length group == 0) || (nat_le (length group + 2) name_limit && is_resource group)
+abbrev pub is_group_name : List ℕ → Bool
+is_group_name group =
+    (length group == 0) || (nat_le (length group + 2) name_limit && is_resource group)
 
 abbrev pub is_pattern : Pattern → Bool
 is_pattern (Exact text) = is_resource text
-is_pattern (Group group) = is_group group
+is_pattern (Group group) = is_group_name group
 is_pattern All = true
 
 -- the same pattern twice

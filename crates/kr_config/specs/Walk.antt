@@ -29,7 +29,7 @@ use Rattle.kr_config.specs.declared.place.ConfigPlace.{ConfigPlace}
 use Rattle.kr_config.specs.declared.place.Counts.{Counts}
 use Rattle.kr_config.specs.declared.provider.Cipher.{Cipher}
 use Rattle.kr_config.specs.declared.provider.Cipher.TheVariants as cipher
-use Rattle.kr_config.specs.Patterns.{resource_group, is_group, same, overlap}
+use Rattle.kr_config.specs.Patterns.{resource_group, is_group_name, same, overlap}
 use Rattle.kr_config.specs.Providers.{is_secret, is_key, is_kms, rivals}
 use Rattle.kr_config.specs.Kept.{ConfigEntry, patterns_in, count_entry_keys, kms_in}
 
@@ -91,7 +91,7 @@ named_list key place d = option_map_or
 -- behind `*.`: `*` is all, nothing or a group that group
 unfoldable pub star_pattern : List ℕ → Option Pattern
 star_pattern group = if bytes_eq group (codes "*") then Some All
-    else if is_group group then Some (Group group) else None
+    else if is_group_name group then Some (Group group) else None
 
 -- `*` before the first dot, or else a resource
 unfoldable pub spelled_pattern : List ℕ → Option Pattern

@@ -4,7 +4,7 @@ ghost use Rattle.std.specs.List.{list_any};
 ghost use Rattle.kr_base.specs.Rules.{is_resource};
 ghost use Rattle.kr_config.specs.declared.pattern.Pattern.TheVariants.{Exact};
 ghost use Rattle.serde_json.specs.View.{view};
-ghost use Rattle.kr_config.specs.Patterns.{same, overlap, is_group};
+ghost use Rattle.kr_config.specs.Patterns.{same, overlap, is_group_name};
 ghost use Rattle.kr_config.specs.Walk.{star_pattern, spelled_pattern, place_pattern, pattern_step};
 ghost use Rattle.kr_config.specs.inner.Reads.{ReadsInto};
 
@@ -118,7 +118,7 @@ fn exact_pattern(alloc: Global, text: &str) -> Result<Option<Pattern>, NoMemory>
 
 /// Whether a group is of its form. `*.` before it counts among the bytes.
 fn group_ok(group: &str) -> bool
-    ensures { result ≡ is_group group.now }
+    ensures { result ≡ is_group_name group.now }
 {
     group.is_empty() || (group.len() <= NAME_LIMIT - 2 && resource_ok(group))
 }

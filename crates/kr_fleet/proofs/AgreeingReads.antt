@@ -40,7 +40,7 @@ found_so : (path : List ℕ) (old new : Caller) (Reads : Row → Result Opened U
 found_so path old new Reads Quiet P some none (Ok Absent) f = none f.1
 found_so path old new Reads Quiet P some none (Ok (Value revision plain stale)) f =
     some f.0 (Ok (record { plain = plain; stale = stale })) f.1
-found_so path old new Reads Quiet P some none (Err (refusal.Refused why)) f =
+found_so path old new Reads Quiet P some none (Err (refusal.Value why)) f =
     some f.0 (Err (unsealing.Refused why)) f.1
 found_so path old new Reads Quiet P some none (Err (refusal.PluginFailed name)) f =
     some f.0 (Err (unsealing.PluginFailed name)) f.1
@@ -147,7 +147,7 @@ module _ (opens : Opens) (cache after : CacheState) (es : List Exchange) (agree 
         told_before (answer.Found f.0) f.1.found (Some (data_of plain))
         (value_is path number p adopted acted is_caller (adopted_law old adopted replica number p a)
         f.0 opened f.1)
-    finds_tells (Err (refusal.Refused why)) f =
+    finds_tells (Err (refusal.Value why)) f =
         told_before (answer.Found f.0) f.1.found (Some (refused why))
         (refusal_is path number p adopted acted is_caller
         (adopted_law old adopted replica number p a) f.0 why f.1)
@@ -167,7 +167,7 @@ module _ (opens : Opens) (cache after : CacheState) (es : List Exchange) (agree 
   early_tells : (path : List ℕ) (replica : ℕ) (old new : Caller) (why : CallNo)
       → AdoptsNothing replica old why new
       → TellsContent (Err why) (IsContentBefore opens path old new)
-  early_tells path replica old new (refusal.Refused x) e = absurd e
+  early_tells path replica old new (refusal.Value x) e = absurd e
   early_tells path replica old new other e = tt
 
 pub reads_agree : ReadsAgree

@@ -36,7 +36,7 @@ module _ {L : Type 0} (link : L → Link) (path : List ℕ) (p : Publication)
   finds (Ok Absent) f = quiet_one old new (event.Fetch path) answer.Absent tt f.0.absent
   finds (Ok (Value revision plain stale)) f =
       finds_row f.0 (Ok (record { plain = plain; stale = stale })) f.1
-  finds (Err (refusal.Refused why)) f = finds_row f.0 _ f.1
+  finds (Err (refusal.Value why)) f = finds_row f.0 _ f.1
   finds (Err (refusal.PluginFailed name)) f = finds_row f.0 _ f.1
   finds (Err refusal.NoMemory) (inl f) = finds_row f.0 _ f.1
   finds (Err refusal.NoMemory) (inr f) =
@@ -66,8 +66,8 @@ module _ {D : Type 0} (left : D → Option (List ℕ)) (count : D → ℕ)
   puts : (result : Result ℕ CallNo) → Puts left count resource path plain p old dice result new after
       → AddsQuietly old new
   puts (Ok revision) f = puts_sealed (answer.Written revision) tt f
-  puts (Err (refusal.Refused value.LooksEncrypted)) f = quiet_none old new f.1
-  puts (Err (refusal.Refused value.TooLarge)) f = quiet_none old new f.1
+  puts (Err (refusal.Value value.LooksEncrypted)) f = quiet_none old new f.1
+  puts (Err (refusal.Value value.TooLarge)) f = quiet_none old new f.1
   puts (Err refusal.DiceFailed) f = quiet_none old new f.1
   puts (Err refusal.StoreFailed) f = puts_sealed answer.StoreFailed tt f
   puts (Err (refusal.StoreFull needed)) f = puts_sealed (answer.StoreFull needed) tt f

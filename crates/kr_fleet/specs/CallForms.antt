@@ -114,7 +114,7 @@ module _ (path : List ℕ) (old new : Caller) (Reads : Row → Result Opened Uns
   FindsWhere (Ok Absent) = FindsNothing path old new × AsksNone
   FindsWhere (Ok (Value revision plain stale)) = (row : Row)
       × Reads row (Ok (record { plain = plain; stale = stale })) × (row.revision ≡ revision)
-  FindsWhere (Err (refusal.Refused why)) = ReadsSome (Err (unsealing.Refused why))
+  FindsWhere (Err (refusal.Value why)) = ReadsSome (Err (unsealing.Refused why))
   FindsWhere (Err (refusal.PluginFailed name)) = ReadsSome (Err (unsealing.PluginFailed name))
   FindsWhere (Err refusal.NoMemory) = ReadsSome (Err unsealing.NoMemory)
       ⊎ (AddsEntry old (event.Fetch path) answer.NoMemory new × AsksNone)

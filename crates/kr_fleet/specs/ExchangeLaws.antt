@@ -46,7 +46,7 @@ module _ {D : Type 0} (left : D → Option (List ℕ)) (count : D → ℕ) where
 abbrev pub TellsContent : Result Read CallNo → (Option Reading → Type 0) → Type 0
 TellsContent (Ok (Value revision plain stale)) Is = Is (Some (data_of plain))
 TellsContent (Ok Absent) Is = Is None
-TellsContent (Err (refusal.Refused why)) Is = Is (Some (refused why))
+TellsContent (Err (refusal.Value why)) Is = Is (Some (refused why))
 TellsContent (Err why) Is = ⊤
 
 -- what stands before the call's own Fetch of the path

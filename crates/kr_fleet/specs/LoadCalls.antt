@@ -121,15 +121,15 @@ module _ {L D : Type 0} (link : L → Link) (left : D → Option (List ℕ))
     pub changed : IsKeyChanged link olds p.seeds
     pub brought : Brought asked
 
-  abbrev pub RenewsBy : ℕ → Publication → Caller → List L → D → Answer → Caller → List L → D
+  abbrev pub RenewsTo : ℕ → Publication → Caller → List L → D → Answer → Caller → List L → D
       → Type 0
-  RenewsBy number p old olds dice given new news after = Renews p olds (λ asked.
+  RenewsTo number p old olds dice given new news after = Renews p olds (λ asked.
       Brings link left count p.rows (reload_of replica (Some number)) old asked dice given
       new news after)
 
-  abbrev pub RefreshesBy : ℕ → Publication → Caller → List L → D → CallNo → Caller → List L → D
+  abbrev pub StopsRefresh : ℕ → Publication → Caller → List L → D → CallNo → Caller → List L → D
       → Type 0
-  RefreshesBy number p old olds dice why new news after =
+  StopsRefresh number p old olds dice why new news after =
       (AsksInVain link olds p.seeds why news × (new ≡ old) × (after ≡ dice))
       ⊎ Renews p olds (λ asked. BringsBy link left count p.rows
       (reload_of replica (Some number)) replica old asked dice why new news after)
@@ -140,12 +140,12 @@ module _ {L D : Type 0} (link : L → Link) (left : D → Option (List ℕ))
   Refreshes number p old olds dice (Ok (loaded.Unchanged same)) new news after =
       (same ≡ number) × AreKeysSame link olds p.seeds × (new ≡ old) × (after ≡ dice)
   Refreshes number p old olds dice (Ok (loaded.Generation made)) new news after =
-      RenewsBy number p old olds dice (answer.Reloaded made) new news after
+      RenewsTo number p old olds dice (answer.Reloaded made) new news after
   Refreshes number p old olds dice (Ok (loaded.Moved current)) new news after =
-      RenewsBy number p old olds dice (answer.Moved current) new news after
+      RenewsTo number p old olds dice (answer.Moved current) new news after
   Refreshes number p old olds dice (Ok (loaded.Refused verdict)) new news after = ⊥
   Refreshes number p old olds dice (Err why) new news after =
-      RefreshesBy number p old olds dice why new news after
+      StopsRefresh number p old olds dice why new news after
 
   -- nothing is adopted; or by the adopted generation, whose settings' plugins alone are asked
   abbrev pub IsRefresh : Caller → List L → D → Result Loaded CallNo → Caller → List L → D

@@ -40,9 +40,9 @@ module _ {D : Type 0} (left : D → Option (List ℕ)) (count : D → ℕ)
   abbrev pub Puts : Publication → Caller → D → Result ℕ CallNo → Caller → D → Type 0
   Puts p old dice (Ok revision) new after =
       PutsSealed p old dice (answer.Written revision) new after
-  Puts p old dice (Err (refusal.Refused LooksEncrypted)) new after =
+  Puts p old dice (Err (refusal.Value LooksEncrypted)) new after =
       SealsNothing p old dice sealing.LooksEncrypted new after
-  Puts p old dice (Err (refusal.Refused TooLarge)) new after =
+  Puts p old dice (Err (refusal.Value TooLarge)) new after =
       SealsNothing p old dice (sealing.TooLarge (length plain)) new after
   Puts p old dice (Err refusal.DiceFailed) new after =
       SealsNothing p old dice sealing.DiceFailed new after

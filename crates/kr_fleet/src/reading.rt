@@ -110,7 +110,7 @@ fn row_value(revision: u64, opened: Result<Opened, UnsealNo>) -> Result<Read, Ca
             plain,
             stale,
         }),
-        Err(UnsealNo::Refused(why)) => Err(CallNo::Refused(why)),
+        Err(UnsealNo::Refused(why)) => Err(CallNo::Value(why)),
         Err(UnsealNo::PluginFailed { name }) => Err(CallNo::PluginFailed { name }),
         Err(UnsealNo::NoMemory) => Err(CallNo::NoMemory),
     }

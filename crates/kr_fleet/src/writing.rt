@@ -101,8 +101,8 @@ fn seal_refusal(why: SealNo) -> CallNo
     ensures { result ≡ seal_refusal why }
 {
     match why {
-        SealNo::LooksEncrypted => CallNo::Refused(ValueNo::LooksEncrypted),
-        SealNo::TooLarge { length: _ } => CallNo::Refused(ValueNo::TooLarge),
+        SealNo::LooksEncrypted => CallNo::Value(ValueNo::LooksEncrypted),
+        SealNo::TooLarge { length: _ } => CallNo::Value(ValueNo::TooLarge),
         SealNo::DiceFailed => CallNo::DiceFailed,
         SealNo::NoMemory => CallNo::NoMemory,
     }

@@ -247,7 +247,7 @@ module _ (Was : SeedKey → List ℕ → Type 0) where
     found_known path p old new (Ok read_finding.Absent) f = none_known f.1
     found_known path p old new (Ok (read_finding.Value revision plain stale)) f =
         row_known path p old new f.0 (Ok (record { plain = plain; stale = stale })) f.1
-    found_known path p old new (Err (refusal.Refused why)) f =
+    found_known path p old new (Err (refusal.Value why)) f =
         row_known path p old new f.0 (Err (unsealing.Refused why)) f.1
     found_known path p old new (Err (refusal.PluginFailed name)) f =
         row_known path p old new f.0 (Err (unsealing.PluginFailed name)) f.1

@@ -295,7 +295,7 @@ blame_in reply = None
 
 module _ (seat : ℕ) where
   refusal_told : (why : CallNo) → blame_in (told_of_refusal seat why) ≡ blame_of why
-  refusal_told (refusal.Refused cause) = refl
+  refusal_told (refusal.Value cause) = refl
   refusal_told other = refl
 
   read_told : (result : Result Read CallNo)

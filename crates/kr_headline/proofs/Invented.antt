@@ -14,7 +14,7 @@ use Rattle.kr_provider.specs.Publication.{Publication}
 use Rattle.kr_rollout.specs.declared.opening.Opening.{Opening}
 use Rattle.kr_workers.specs.Heard.{Heard}
 use Rattle.kr_headline.specs.Fleets.{AgreesWithAll}
-use Rattle.kr_headline.specs.WrongSeals.{IsUnheard, TellsOfKey}
+use Rattle.kr_headline.specs.WrongSeals.{IsUntold, TellsOfKey}
 
 module _ (key : SeedKey) (opens : Opens) where
   -- the same truth, but for this key
@@ -53,7 +53,7 @@ module _ (key : SeedKey) (opens : Opens) where
   seeds_agree (Some p) none a =
       λ k row below. stays (key_of (get_or p.seeds k row)) (none k row below) ∙ a k row below
 
-  others_agree : (heard : (worker : ℕ) → Heard) (o : Opening) → IsUnheard heard o key
+  others_agree : (heard : (worker : ℕ) → Heard) (o : Opening) → IsUntold heard o key
       → AgreesWithAll heard opens o → AgreesWithAll heard other o
   others_agree heard o u agrees = (
     λ worker. record {
@@ -67,7 +67,7 @@ module _ (key : SeedKey) (opens : Opens) where
   )
 
   -- no seed of this key opens by it
-  pub none_invented : (heard : (worker : ℕ) → Heard) (o : Opening) → IsUnheard heard o key
+  pub none_invented : (heard : (worker : ℕ) → Heard) (o : Opening) → IsUntold heard o key
       → AgreesWithAll heard opens o → (seeds : List SeedRow)
       → (AgreesWithAll heard other o → OpenAll other seeds) → (row : SeedRow)
       → Contains seeds row → key_of row ≡ key → ⊥

@@ -84,7 +84,7 @@ module _ (path : List ℕ) (cache after : CacheState) (es : List Exchange) where
   found_asks p old new (Ok read.Absent) f = none_found f.1
   found_asks p old new (Ok (read.Value revision plain stale)) f =
       row_asks p f.0 (Ok (record { plain = plain; stale = stale })) f.1.reads
-  found_asks p old new (Err (refusal.Refused why)) f =
+  found_asks p old new (Err (refusal.Value why)) f =
       row_asks p f.0 (Err (unsealing.Refused why)) f.1.reads
   found_asks p old new (Err (refusal.PluginFailed name)) f =
       row_asks p f.0 (Err (unsealing.PluginFailed name)) f.1.reads

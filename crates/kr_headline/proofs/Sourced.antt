@@ -132,7 +132,7 @@ module _ (history : List Entry) (o : Opening) (seat : ℕ) (ahead part : List En
       found_sourced number (Ok (read_finding.Value revision plain stale)) d =
           subst (λ n. FoundSo n (data_of plain)) d.2
           (row_sourced d.0 (Ok (record { plain = plain; stale = stale })) (data_of plain) d.1 refl)
-      found_sourced number (Err (refusal.Refused why)) d = (
+      found_sourced number (Err (refusal.Value why)) d = (
         d.0.revision,
         row_sourced d.0 (Err (unsealing.Refused why)) (refused why) d.1 refl,
       )

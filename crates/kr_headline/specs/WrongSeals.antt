@@ -42,7 +42,7 @@ TellsOfKey key (UnwrapCall own (Ok bytes)) = own ≡ key
 TellsOfKey key (UnwrapCall own (Err why)) = ⊥
 
 -- no plugin told a worker what it opens to, no bench had kept that, and it is none of the start's
-pub record IsUnheard (heard : (worker : ℕ) → Heard) (o : Opening) (key : SeedKey) : Type 0 where
+pub record IsUntold (heard : (worker : ℕ) → Heard) (o : Opening) (key : SeedKey) : Type 0 where
   pub answered : (worker : ℕ) (e : Exchange) → Contains (heard worker).exchanges e
       → TellsOfKey key e → ⊥
   pub kept : (worker : ℕ) (seed : List ℕ) → Contains (heard worker).kept (key, seed) → ⊥
@@ -85,7 +85,7 @@ module _ {T L D : Type 0} (values : Values) (link : L → Link) (step : L → Ex
     -- they answered
     pub invented : (opens : Opens) (e : Entry) (p : Publication) (row : SeedRow) → Brought e p
         → AgreesWithAll h.heard opens o → Contains p.seeds row
-        → IsUnheard h.heard o (key_of row) → ⊥
+        → IsUntold h.heard o (key_of row) → ⊥
     -- one is published without a seed of a plugin that it names, so that a refresh would never find
     -- that plugin's key changed; or with a seed of another length, by which nobody could read
     pub seedless : (e : Entry) (p : Publication) (name : List ℕ) → Brought e p

@@ -72,10 +72,10 @@ LetsGo old done result new = (AddsEntry old event.LetGo answer.Released new × (
     ⊎ (AddsNothing old new × (result ≡ Err refusal.Spent))
 
 -- the call ended where it adopted nothing, and this stayed
-abbrev pub EndsEarly : {T : Type 0} → (replica : ℕ) → (Stays : Type 0) → Caller
+abbrev pub EndsEarly : {T : Type 0} → (replica : ℕ) → (IsUnchanged : Type 0) → Caller
     → Result T CallNo → Caller → Type 0
-EndsEarly replica Stays old (Ok done) new = ⊥
-EndsEarly replica Stays old (Err why) new = AdoptsNothing replica old why new × Stays
+EndsEarly replica IsUnchanged old (Ok done) new = ⊥
+EndsEarly replica IsUnchanged old (Err why) new = AdoptsNothing replica old why new × IsUnchanged
 
 module _ {T : Type 0}
     (Does : (number : ℕ) → Publication → Caller → Result T CallNo → Caller → Type 0) where

@@ -8,7 +8,7 @@ use kr_provider::ValueNo;
 #[derive(Drop)]
 pub enum CallNo {
     /// The data can't be sealed, or the row that was found reads so.
-    Refused(ValueNo),
+    Value(ValueNo),
     /// The plugin of this name failed; its link's count of faults tells so.
     PluginFailed {
         name: Text,

@@ -9,9 +9,9 @@ use Rattle.kr_keywrap.specs.Answer.{Plugin, answer}
 use Rattle.kr_keywrap.specs.Serving.{AreServedLines, HasNoBreak, Serves, answers, last_line, line_limit, lines_limit, served_text, ServingEnds}
 use Rattle.kr_keywrap.specs.declared.serving.Served.{Served}
 use Rattle.kr_keywrap.specs.declared.serving.Served.TheVariants.{Done, Failed, NoMemory, TooLong}
-use Rattle.kr_keywrap.specs.inner.Lines.{Fails, Goes, Grows, NextPart, Passes, ServesLast, ServesLine, Starves}
+use Rattle.kr_keywrap.specs.inner.Lines.{Fails, HasServed, Grows, NextPart, Passes, ServesLast, ServesLine, Starves}
 
-pub goes_none : (plugin : Plugin) (left held : Option (List ℕ)) → Goes plugin left left held held [] 0
+pub goes_none : (plugin : Plugin) (left held : Option (List ℕ)) → HasServed plugin left left held held [] 0
 goes_none plugin left held = record {
   lines = [];
   took = Consumes-nil left;
@@ -22,7 +22,7 @@ goes_none plugin left held = record {
 }
 
 module _ (plugin : Plugin) (a b c h i j : Option (List ℕ)) (pending all : List ℕ) (count : ℕ)
-    (before : Goes plugin a b h i pending count) (grows : Grows b c pending all) where
+    (before : HasServed plugin a b h i pending count) (grows : Grows b c pending all) where
   -- all that was taken
   took_all : Consumes a c (served_text before.lines ++ all)
   took_all =
@@ -39,7 +39,7 @@ module _ (plugin : Plugin) (a b c h i j : Option (List ℕ)) (pending all : List
   wrote_nothing : Appends i j [] → Appends h j (answers plugin before.lines)
   wrote_nothing w = subst (Appends h j) (append-nil (answers plugin before.lines)) (Appends-trans h i j (answers plugin before.lines) [] before.wrote w)
 
-  pub goes_more : (new : List ℕ) → ServesLine plugin i j all new → Goes plugin a c h j new (count + 1)
+  pub goes_more : (new : List ℕ) → ServesLine plugin i j all new → HasServed plugin a c h j new (count + 1)
   goes_more new one =
       let lines : List (List ℕ) = before.lines in
       let text : served_text lines ++ all ≡ served_text (lines ++ one.line ∷ []) ++ new =

@@ -11,7 +11,7 @@ use Rattle.kr_keywrap.specs.Answer.{Plugin, answer}
 use Rattle.kr_keywrap.specs.Serving.{HasNoBreak, Serves, answers, last_line, line_limit, lines_limit}
 use Rattle.kr_keywrap.specs.declared.serving.Served.{Served}
 use Rattle.kr_keywrap.specs.declared.serving.Served.TheVariants.{Done, Failed, NoMemory, TooLong}
-use Rattle.kr_keywrap.specs.inner.Lines.{Finds, Goes, Grows, IsBreak, NextPart, ServesLast, ServesLine, ServesNext, ServesOne, WritesAnswer, WritesLast}
+use Rattle.kr_keywrap.specs.inner.Lines.{Finds, HasServed, Grows, IsBreak, NextPart, ServesLast, ServesLine, ServesNext, ServesOne, WritesAnswer, WritesLast}
 use Rattle.kr_keywrap.proofs.Lines.{grows_none, no_break, no_break_all}
 use Rattle.kr_keywrap.proofs.Loops.{goes_none, served_end, served_failed, served_long, served_starved}
 
@@ -143,7 +143,7 @@ line_served plugin held_old held all new line place is short at rest wrote =
 -- ---- the whole loop
 
 stopped : (plugin : Plugin) (a b c h i j : Option (List ℕ)) (pending all new : List ℕ) (count : ℕ) (R Q Source Sink : Type 0) (why : Served)
-    → Goes plugin a b h i pending count → Grows b c pending all → ServesNext plugin c i j all new R Q (Err why) → (R → Source) → (Q → Sink)
+    → HasServed plugin a b h i pending count → Grows b c pending all → ServesNext plugin c i j all new R Q (Err why) → (R → Source) → (Q → Sink)
     → count ≤ lines_limit → Serves plugin a c h j Source Sink why
 stopped plugin a b c h i j pending all new count R Q Source Sink Done before grows one source sink few = absurd one
 stopped plugin a b c h i j pending all new count R Q Source Sink Failed before grows one source sink few =
@@ -154,14 +154,14 @@ stopped plugin a b c h i j pending all new count R Q Source Sink TooLong before 
     served_long plugin a b c h i j pending all count before grows Source Sink one few
 
 pub stops : (plugin : Plugin) (a b c h i j : Option (List ℕ)) (pending new : List ℕ) (count : ℕ) (R Q Source Sink : Type 0) (why : Served)
-    → Goes plugin a b h i pending count → ServesOne plugin b c i j pending new R Q (Err why) → (R → Source) → (Q → Sink) → count ≤ lines_limit
+    → HasServed plugin a b h i pending count → ServesOne plugin b c i j pending new R Q (Err why) → (R → Source) → (Q → Sink) → count ≤ lines_limit
     → Serves plugin a c h j Source Sink why
 stops plugin a b c h i j pending new count R Q Source Sink why before one source sink few =
     stopped plugin a b c h i j pending one.all new count R Q Source Sink why before one.grows one.serves source sink few
 
 -- the lines are all answered, and there is no further one
 pub stops_behind : (plugin : Plugin) (a b c h i : Option (List ℕ)) (pending all : List ℕ) (count : ℕ) (R Source Sink : Type 0) (why : Served)
-    → Goes plugin a b h i pending count → Grows b c pending all → Finds c all R (Err why) → (R → Source) → count ≤ lines_limit
+    → HasServed plugin a b h i pending count → Grows b c pending all → Finds c all R (Err why) → (R → Source) → count ≤ lines_limit
     → Serves plugin a c h i Source Sink why
 stops_behind plugin a b c h i pending all count R Source Sink why before grows finds source few =
     stopped plugin a b c h i i pending all all count R Sink Source Sink why before grows (none_found plugin c i all all R Sink why finds) source (λ s. s) few
@@ -171,7 +171,7 @@ at_end left all R None finds none = finds.0
 at_end left all R (Some place) finds none = absurd (omega (arith, finds.0.within, none))
 
 pub ends_behind : (plugin : Plugin) (a b c h i : Option (List ℕ)) (pending all : List ℕ) (count : ℕ) (R Source Sink : Type 0) (found : Option ℕ)
-    → Goes plugin a b h i pending count → Grows b c pending all → Finds c all R (Ok found) → length all ≡ 0 → count ≤ lines_limit
+    → HasServed plugin a b h i pending count → Grows b c pending all → Finds c all R (Ok found) → length all ≡ 0 → count ≤ lines_limit
     → Serves plugin a c h i Source Sink Done
 ends_behind plugin a b c h i pending all count R Source Sink found before grows finds none few =
     served_end plugin a b c h i i pending all count before grows Source Sink (at_end c all R found finds none) none (Appends-nil i) few

@@ -5,7 +5,7 @@ use Rattle.kr_base.specs.Faults.{counted}
 use Rattle.kr_base.specs.InMemory.{Calls, IsListed, after_call, after_fault}
 use Rattle.kr_kms.specs.Calls.{Link}
 use Rattle.kr_kms.specs.Exchanges.{Exchange, StatusCall, WrapCall, UnwrapCall, KeepsLink, TellsAnswer}
-use Rattle.kr_kms.specs.Exchanges.{AgreesWith, asked_name, has_failed, is_fault}
+use Rattle.kr_kms.specs.Exchanges.{AgreesWith, asked_name, plugin_failed, is_fault}
 use Rattle.kr_kms.specs.Opens.{Opens}
 use Rattle.kr_kms.specs.declared.plugin.Status.{Status}
 use Rattle.kr_kms.specs.declared.plugin.Wrapped.{Wrapped}
@@ -91,7 +91,7 @@ faults_after false calls = refl
 
 after_answer : {T : Type 0} (old new : KeyLinkState) (Served : Type 0) (IsRight : T → Type 0)
     (result : Result T KmsNo) → AnswersByKeys old Served IsRight result new
-    → new ≡ record old { calls = calls_after (has_failed result) old.calls }
+    → new ≡ record old { calls = calls_after (plugin_failed result) old.calls }
 after_answer old new Served IsRight (Ok given) h = h.3
 after_answer old new Served IsRight (Err Failed) h = h.1
 after_answer old new Served IsRight (Err NoMemory) h = h.2

@@ -41,16 +41,16 @@ AgreeAll opens (exchange ∷ exchanges) = AgreesWith opens exchange × AgreeAll 
 
 -- ---- what an exchange does to a link
 
-abbrev pub has_failed : {T : Type 0} → Result T KmsNo → Bool
-has_failed (Ok answer) = false
-has_failed (Err Failed) = true
-has_failed (Err NoMemory) = false
+abbrev pub plugin_failed : {T : Type 0} → Result T KmsNo → Bool
+plugin_failed (Ok answer) = false
+plugin_failed (Err Failed) = true
+plugin_failed (Err NoMemory) = false
 
 -- whether the plugin failed or refused
 abbrev pub is_fault : Exchange → Bool
-is_fault (StatusCall name answer) = has_failed answer
-is_fault (WrapCall name plain answer) = has_failed answer
-is_fault (UnwrapCall key answer) = has_failed answer
+is_fault (StatusCall name answer) = plugin_failed answer
+is_fault (WrapCall name plain answer) = plugin_failed answer
+is_fault (UnwrapCall key answer) = plugin_failed answer
 
 -- the link asked its own plugin; its name and the status that it tells stay, and a fault counts
 -- once

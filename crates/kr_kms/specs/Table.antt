@@ -10,7 +10,7 @@ use Rattle.kr_base.specs.Pairs.{Pairs}
 use Rattle.kr_base.specs.InMemory.{Calls, IsListed, after_call, after_fault}
 use Rattle.kr_kms.specs.Calls.{Link}
 use Rattle.kr_kms.specs.Exchanges.{Exchange, StatusCall, WrapCall, UnwrapCall, KeepsLink, TellsAnswer}
-use Rattle.kr_kms.specs.Exchanges.{asked_name, has_failed, is_fault}
+use Rattle.kr_kms.specs.Exchanges.{asked_name, plugin_failed, is_fault}
 use Rattle.kr_kms.specs.Limits.{IsWithinLimits}
 use Rattle.kr_kms.specs.Opens.{Opens}
 use Rattle.kr_kms.specs.declared.plugin.Status.{Status}
@@ -113,7 +113,7 @@ faults_after false calls = refl
 
 after_answer : {T : Type 0} (old new : Table) (Served : Type 0) (answer : T)
     (result : Result T KmsNo) → AnswersByTable old Served answer result new
-    → new ≡ record old { calls = calls_after (has_failed result) old.calls }
+    → new ≡ record old { calls = calls_after (plugin_failed result) old.calls }
 after_answer old new Served answer (Ok given) h = h.3
 after_answer old new Served answer (Err Failed) h = h.1
 after_answer old new Served answer (Err NoMemory) h = h.2

@@ -1,6 +1,7 @@
 //! Plugins that wrap and unwrap seeds, as the crates above see them: a link to a plugin and what it
 //! answers; seeds, which links make and a cache keeps; and the world that a command runs in, which
-//! gives files, and lends tapes, random sources and links.
+//! gives files, and lends tapes, random sources and links. Of a seed the key of each value is
+//! derived, the data encryption key (DEK); the plugin's key is the key encryption key (KEK).
 #![tactic(auto)]
 
 mod cache;

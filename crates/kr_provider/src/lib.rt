@@ -1,5 +1,6 @@
 //! Providers at work: what an object's data are sealed as for a resource, and what a stored value
-//! reads as.
+//! reads as. The API server calls what a provider does a transformer (`value.Transformer`); a bench
+//! has those of one configuration, with their keys.
 #![tactic(auto)]
 
 mod adopted;

@@ -25,7 +25,7 @@ use Rattle.kr_script.specs.Rows.{Row, words_of, word_rows, is_spoken}
 use Rattle.kr_script.specs.Statements.{WriteAll, statements_of}
 use Rattle.kr_script.specs.Rules.{IsWhole, KeepsFleetLimits, is_long, replica_limit}
 use Rattle.kr_script.specs.Rules.{worker_limit, is_worker, is_line}
-use Rattle.kr_script.specs.Meanings.{Say, IsBegun, IsNone, ExceedsLimit, HasReplicas}
+use Rattle.kr_script.specs.Meanings.{Say, IsBegun, IsNoBeginning, ExceedsLimit, HasReplicas}
 use Rattle.kr_script.specs.Meanings.{HasWorkers, HasData, LinesMean, MeansScript, ReadsScript}
 use Rattle.kr_script.specs.inner.Drafts.{Draft, start, fleet_in, workers_in, statement_of, step}
 use Rattle.kr_script.specs.inner.Drafts.{with_statement, with_line, new_worker, passes, draft_within}
@@ -247,7 +247,7 @@ run_silent text line d ran silence =
     (silent line silence) ∙ append-nil (word_rows text)) ∙ ran
 
 -- where reading stops, no fleet is written
-none_written : (text : Text) → run start (word_rows text) ≡ None → IsNone text
+none_written : (text : Text) → run start (word_rows text) ≡ None → IsNoBeginning text
 none_written text stop = (
   λ s. let bad : None ≡ Some start = sym stop ∙ ap (run start) s.blank in
       none_some start bad,
@@ -255,7 +255,7 @@ none_written text stop = (
       none_some r.draft (sym stop ∙ r.ran),
 )
 
-not_text : (text : Text) (line : List ℕ) → is_utf8 line ≡ false → IsNone (text ++ line ∷ [])
+not_text : (text : Text) (line : List ℕ) → is_utf8 line ≡ false → IsNoBeginning (text ++ line ∷ [])
 not_text text line e = (
   λ s. both_ways (is_utf8 line) e (utf8_last text line s.utf8),
   λ fleet s. both_ways (is_utf8 line) e (utf8_last text line s.utf8),
@@ -281,13 +281,13 @@ inside : (text : Text) (line : List ℕ) (more : Text) → length text < length 
 inside text line more = let e = length-append text (line ∷ more) in omega (arith, e)
 
 breach_at : (text : Text) (line : List ℕ) (more : Text) (d : Draft) (n : ℕ) → Stood text d
-    → n ≡ length text + 1 → IsNone (text ++ line ∷ [])
+    → n ≡ length text + 1 → IsNoBeginning (text ++ line ∷ [])
     → LinesMean (text ++ line ∷ more) (Err (Breach n))
 breach_at text line more d n s number none = (
   length text,
   number,
   subst IsBegun (sym (taken_front text (line ∷ more))) (begun text d s),
-  inl (inside text line more, subst IsNone (sym (taken_at text line more)) none),
+  inl (inside text line more, subst IsNoBeginning (sym (taken_at text line more)) none),
 )
 
 limit_at : (text : Text) (line : List ℕ) (more : Text) (d : Draft) (Limit : Fleet → Type 0)

@@ -22,7 +22,7 @@ use Rattle.kr_script.specs.declared.line_error.ScriptLineError.TheVariants as li
 use Rattle.kr_script.specs.Fleets.{Fleet, Worker}
 use Rattle.kr_script.specs.Rows.{words_of, word_rows, is_spoken}
 use Rattle.kr_script.specs.Rules.{IsWhole, KeepsFleetLimits, is_long}
-use Rattle.kr_script.specs.Meanings.{Say, IsBegun, IsNone, ExceedsLimit, LinesMean}
+use Rattle.kr_script.specs.Meanings.{Say, IsBegun, IsNoBeginning, ExceedsLimit, LinesMean}
 use Rattle.kr_script.specs.Laws.{OneFleetMeaning, SomeFleetMeaning}
 use Rattle.kr_script.specs.inner.Drafts.{Draft, start, fleet_in, workers_in, statement_of, step}
 use Rattle.kr_script.specs.inner.Drafts.{with_statement, with_line, new_worker, passes, draft_within}
@@ -187,17 +187,17 @@ stood text (inr (fleet, say, within)) =
 -- ---- refusals
 
 says : (text : Text) (d : Draft) → list_all is_utf8 text ≡ true → Stands (word_rows text) d
-    → IsNone text → ⊥
+    → IsNoBeginning text → ⊥
 says text d utf8 (inl (blank, is)) none = none.0 (record { utf8 = utf8; blank = blank })
 says text d utf8 (inr h) none =
     none.1 (fleet_in d) (record { utf8 = utf8; written = h.written; rules = h.rules })
 
 ran_none : (text : Text) (d : Draft) → list_all is_utf8 text ≡ true
-    → run start (word_rows text) ≡ Some d → IsNone text → ⊥
+    → run start (word_rows text) ≡ Some d → IsNoBeginning text → ⊥
 ran_none text d utf8 ran none = says text d utf8 (sound (word_rows text) d ran) none
 
 none_stops : (front : Text) (line : List ℕ) (d : Draft) → Stood front d
-    → IsNone (front ++ line ∷ []) → line_step d line ≡ Err line_error.Form
+    → IsNoBeginning (front ++ line ∷ []) → line_step d line ≡ Err line_error.Form
 none_stops front line d s none = by (is_utf8 line) refl
   where
     said : is_utf8 line ≡ true → is_spoken (words_of line) ≡ true → (o : Option Statement)
@@ -369,7 +369,7 @@ answered text (Err (Breach n)) (at, number, front, inl (inside, none)) =
     let a = at_line_of text at inside in
     let b = stood a.front (subst IsBegun a.before front) in
     answered_at text at a b.draft line_error.Form b.stood
-    (none_stops a.front a.line b.draft b.stood (subst IsNone a.with none))
+    (none_stops a.front a.line b.draft b.stood (subst IsNoBeginning a.with none))
     ∙ ap (λ m. Err (Breach m)) (omega (arith, number))
 answered text (Err (Breach n)) (at, number, front, inr (end, none)) =
     let b = stood text (subst IsBegun (take_all at text (omega (arith, end))) front) in

@@ -26,18 +26,18 @@ pub record SayNothing (text : List (List ℕ)) : Type 0 where
   pub utf8 : list_all is_utf8 text ≡ true
   pub blank : word_rows text ≡ []
 
--- they are the begin of a file, within the limits
+-- they are the beginning of a file, within the limits
 abbrev pub IsBegun : List (List ℕ) → Type 0
 IsBegun text = SayNothing text ⊎ ((fleet : Fleet) × Say text fleet × KeepsFleetLimits fleet)
 
--- they are no begin of a file, whatever the limits are
-abbrev pub IsNone : List (List ℕ) → Type 0
-IsNone text = (SayNothing text → ⊥) × ((fleet : Fleet) → Say text fleet → ⊥)
+-- they are no beginning of a file, whatever the limits are
+abbrev pub IsNoBeginning : List (List ℕ) → Type 0
+IsNoBeginning text = (SayNothing text → ⊥) × ((fleet : Fleet) → Say text fleet → ⊥)
 
--- With this line, counted from 0, the text is no begin of a file any more; or with all its lines
--- it is one, but no whole file.
+-- With this line, counted from 0, the text is no beginning of a file any more; or with all its
+-- lines it is one, but no whole file.
 abbrev pub Breaks : List (List ℕ) → ℕ → Type 0
-Breaks text at = ((at < length text) × IsNone (take (at + 1) text))
+Breaks text at = ((at < length text) × IsNoBeginning (take (at + 1) text))
     ⊎ ((at ≡ length text) × ((fleet : Fleet) → Say text fleet → IsWhole fleet → ⊥))
 
 -- with this line, counted from 0, it writes a fleet that passes a limit
@@ -56,7 +56,7 @@ HasData fleet = (length fleet.replicas ≤ replica_limit) × (length fleet.worke
     × (has_long_line fleet ≡ true)
 
 -- What lines mean. A refusal comes at the first line that can't stand there: all lines before it
--- are the begin of a file within the limits. A breach goes before a limit.
+-- are the beginning of a file within the limits. A breach goes before a limit.
 abbrev pub LinesMean : List (List ℕ) → Result Fleet ScriptNo → Type 0
 LinesMean text (Ok fleet) = Say text fleet × KeepsFleetLimits fleet × IsWhole fleet
 LinesMean text (Err (Breach line)) =

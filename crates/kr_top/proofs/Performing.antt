@@ -10,7 +10,7 @@ use Rattle.kr_cmd_messages.specs.declared.refusal.Done.{Done}
 use Rattle.kr_cmd_messages.specs.declared.refusal.Ended.{Ended}
 use Rattle.kr_cmd_messages.specs.declared.refusal.Outcome.{Outcome}
 use Rattle.kr_cmd_messages.specs.declared.refusal.Stop.{Stop}
-use Rattle.kr_cmd_steps.specs.Around.{Around, around, with_exchanges, with_world}
+use Rattle.kr_cmd_steps.specs.Environment.{Environment, around, with_exchanges, with_world}
 use Rattle.kr_cmd_steps.specs.Commands.{steps}
 use Rattle.kr_cmd_steps.specs.Heard.{Heard}
 use Rattle.kr_cmd_steps.specs.Ran.{Answers, StopsAtOnce, WroteNothing}
@@ -28,7 +28,7 @@ same_handed : {old new : Objects (ℕ × List ℕ) (Option Status)} → new ≡ 
 same_handed same = ap (λ (o : Objects (ℕ × List ℕ) (Option Status)). o.handed) same
 
 -- a command that reports nothing
-silently_by : {a b : Command} {old new : Around} {made : Result Outcome Stop} (ended : Ended)
+silently_by : {a b : Command} {old new : Environment} {made : Result Outcome Stop} (ended : Ended)
     → a ≡ b → ended ≡ record { made = made; said = None } → Does (steps a) old new made
     → new.said ≡ [] → DoesAll b old (saying ended.said new) ended.made
 silently_by {a} {b} {old} {new} {made} ended e is d silent =
@@ -41,7 +41,7 @@ module _ {L : Type 0} (link : L → Link) (step : L → Exchange → L → Type 
   -- it touches the world and the input, and asks plugins
   pub asking : {a b : Command} {made : Result Outcome Stop} (ended : Ended) → a ≡ b
       → ended ≡ record { made = made; said = None }
-      → Heard link lent took step 0 w v [] [] (λ es. (x : Around) → Does (steps a)
+      → Heard link lent took step 0 w v [] [] (λ es. (x : Environment) → Does (steps a)
       (with_told_input before m (with_world w x))
       (with_told_input behind n (with_world v (with_exchanges es x))) made)
       → Performs link step lent took b (around w before m) (around v behind n) ended
@@ -53,7 +53,7 @@ module _ {L : Type 0} (link : L → Link) (step : L → Exchange → L → Type 
   -- or it asks none
   pub unasking : {a b : Command} {made : Result Outcome Stop} (ended : Ended) → a ≡ b
       → ended ≡ record { made = made; said = None } → v.links.handed ≡ w.links.handed
-      → ((x : Around) → Does (steps a) (with_told_input before m (with_world w x))
+      → ((x : Environment) → Does (steps a) (with_told_input before m (with_world w x))
       (with_told_input behind n (with_world v x)) made)
       → Performs link step lent took b (around w before m) (around v behind n) ended
   unasking ended e is same does = asking ended e is
@@ -65,7 +65,7 @@ module _ {L : Type 0} (link : L → Link) (step : L → Exchange → L → Type 
   -- the input stays
   pub asking_alone : {a b : Command} {made : Result Outcome Stop} (ended : Ended) → a ≡ b
       → ended ≡ record { made = made; said = None }
-      → Heard link lent took step 0 w v [] [] (λ es. (x : Around) → Does (steps a)
+      → Heard link lent took step 0 w v [] [] (λ es. (x : Environment) → Does (steps a)
       (with_world w x) (with_world v (with_exchanges es x)) made)
       → Performs link step lent took b (around w input m) (around v input m) ended
   asking_alone ended e is heard = asking link step lent took w v input m input m ended e is
@@ -74,14 +74,14 @@ module _ {L : Type 0} (link : L → Link) (step : L → Exchange → L → Type 
 
   pub unasking_alone : {a b : Command} {made : Result Outcome Stop} (ended : Ended) → a ≡ b
       → ended ≡ record { made = made; said = None } → v.links ≡ w.links
-      → ((x : Around) → Does (steps a) (with_world w x) (with_world v x) made)
+      → ((x : Environment) → Does (steps a) (with_world w x) (with_world v x) made)
       → Performs link step lent took b (around w input m) (around v input m) ended
   unasking_alone ended e is same does = unasking link step lent took w v input m input m ended e
       is (same_handed same) (λ x. does (with_told_input input m x))
 
   -- and a command that reports where it stops
   pub reporting : {a b : Command} (ended : Ended) → a ≡ b
-      → Heard link lent took step 0 w v [] [] (λ es. (x : Around) → x.said ≡ [] → DoesAll a
+      → Heard link lent took step 0 w v [] [] (λ es. (x : Environment) → x.said ≡ [] → DoesAll a
       (with_world w x) (saying ended.said (with_world v (with_exchanges es x))) ended.made)
       → Performs link step lent took b (around w input m) (around v input m) ended
   reporting {a} {b} ended e heard = heard_so link lent took step 0 [] [] _
@@ -92,7 +92,7 @@ module _ {L : Type 0} (link : L → Link) (step : L → Exchange → L → Type 
 
 -- the words stop the call before anything is done
 pub unanswered : {L : Type 0} (link : L → Link) (step : L → Exchange → L → Type 0)
-    (lent took : ℕ → L → Type 0) (words : List (List ℕ)) (a : Around) (output : Receipt)
+    (lent took : ℕ → L → Type 0) (words : List (List ℕ)) (a : Environment) (output : Receipt)
     (result : Result Done Stop) → StopsAtOnce words result → WroteNothing output
     → AnswersHearing link step lent took words a a output result
 unanswered link step lent took words a output result stops idle =

@@ -20,7 +20,7 @@ use Rattle.kr_cmd_messages.specs.declared.refusal.Stop.TheVariants.{NoMemory}
 use Rattle.kr_cmd_messages.proofs.LoadAsked.{asked_small, not_both, one_load}
 use Rattle.kr_cmd_messages.proofs.WatchAsked.{not_fleet_and_watch, not_load_and_watch, one_watch}
 use Rattle.kr_cmd_steps.specs.Afterwards.{AreLeft}
-use Rattle.kr_cmd_steps.specs.Around.{Around, around, with_exchanges, with_world}
+use Rattle.kr_cmd_steps.specs.Environment.{Environment, around, with_exchanges, with_world}
 use Rattle.kr_cmd_steps.specs.Ran.{Answers, Ran, Readings, WroteNothing}
 use Rattle.kr_cmd_steps.proofs.HeardLinks.{heard_so}
 use Rattle.kr_cmd_fleet.specs.Fleets.{RanAlone, RanFleet, TellsFleet}
@@ -48,7 +48,7 @@ use Rattle.kr_top.proofs.Performing.{unanswered}
 -- ---- a command that no one waits in, or words that mean none
 
 module _ {L : Type 0} (link : L → Link) (step : L → Exchange → L → Type 0)
-    (lent took : ℕ → L → Type 0) (words : List (List ℕ)) (old new : Around)
+    (lent took : ℕ → L → Type 0) (words : List (List ℕ)) (old new : Environment)
     (output errors : Receipt) (status : ℕ) where
   pub record RunsAlone : Type 0 where
     pub ran : Ran words old new output errors status
@@ -61,7 +61,7 @@ module _ (words : List (List ℕ)) (output errors : Receipt) (status : ℕ) (res
     (tells : Tells (line_of result) (status_of result) errors status)
     (written : output.old_faults ≤ output.new_faults)
     (told : errors.old_faults ≤ errors.new_faults) where
-  ran_by : {old new : Around} → Answers words old new output result
+  ran_by : {old new : Environment} → Answers words old new output result
       → Ran words old new output errors status
   ran_by answers = record {
     result = result;
@@ -89,7 +89,7 @@ module _ (words : List (List ℕ)) (output errors : Receipt) (status : ℕ) (res
       }
 
 module _ {L : Type 0} (link : L → Link) (step : L → Exchange → L → Type 0)
-    (lent took : ℕ → L → Type 0) (words : List (List ℕ)) (old new : Around)
+    (lent took : ℕ → L → Type 0) (words : List (List ℕ)) (old new : Environment)
     (output errors : Receipt) (status : ℕ) where
   -- as `run_alone` says it
   pub told_alone : RunsAlone link step lent took words old new output errors status
@@ -110,7 +110,7 @@ asked_apart words (Watch asked) asks = inr (inr (asked, asks))
 
 module _ (T : Type 0) {L D : Type 0} (link : L → Link)
     (step : L → Exchange → L → Type 0) (lent took : ℕ → L → Type 0)
-    (left : D → Option (List ℕ)) (count : D → ℕ) (words : List (List ℕ)) (old new : Around)
+    (left : D → Option (List ℕ)) (count : D → ℕ) (words : List (List ℕ)) (old new : Environment)
     (output errors : Receipt) (status : ℕ) where
   abbrev pub FleetRuns : FleetWords → Type 0
   FleetRuns asked = RanFleet T link step lent took left count asked old new output errors status
@@ -193,17 +193,17 @@ module _ (T : Type 0) {L D : Type 0} (link : L → Link)
     (result : Result Ending Stop) (tells : TellsFleet result errors status)
     (written : output.old_faults ≤ output.new_faults)
     (told : errors.old_faults ≤ errors.new_faults) where
-  abbrev before : Around
+  abbrev before : Environment
   before = around w input faults
 
-  abbrev behind : Around
+  abbrev behind : Environment
   behind = around v input faults
 
   pub team_promised : (asked : TeamWords) → AsksTeam words asked
       → DidTeam T link step lent took left count asked w v output result
       → Runs T link step lent took left count words before behind output errors status
   team_promised (Fleet read) is (exchanges, did) =
-      let ran : (a : Around) → RanFleet T link step lent took left count read (with_world w a)
+      let ran : (a : Environment) → RanFleet T link step lent took left count read (with_world w a)
       (with_world v (with_exchanges exchanges a)) output errors status = λ a. record {
         result = result;
         did = did a;
@@ -223,7 +223,7 @@ module _ (T : Type 0) {L D : Type 0} (link : L → Link)
         told = told;
       })
   team_promised (Watch read) is (exchanges, did) =
-      let ran : (a : Around) → RanWatch T link step lent took left count read (with_world w a)
+      let ran : (a : Environment) → RanWatch T link step lent took left count read (with_world w a)
       (with_world v (with_exchanges exchanges a)) output errors status = λ a. record {
         result = result;
         did = did a;
@@ -240,7 +240,7 @@ module _ (words : List (List ℕ)) (w : Outside) (input : Option (List ℕ)) (fa
     (output errors : Receipt) (status : ℕ) (stop : Stop) (idle : WroteNothing output)
     (tells : Tells (line_of (Err stop)) (status_of (Err stop)) errors status)
     (later : errors.old_faults ≤ errors.new_faults) (is : IsUnread words stop) where
-  abbrev here : Around
+  abbrev here : Environment
   here = around w input faults
 
   written_later : output.old_faults ≤ output.new_faults
@@ -278,7 +278,7 @@ module _ (words : List (List ℕ)) (w : Outside) (input : Option (List ℕ)) (fa
   module _ (T : Type 0) {L D : Type 0} (link : L → Link)
       (step : L → Exchange → L → Type 0) (lent took : ℕ → L → Type 0)
       (left : D → Option (List ℕ)) (count : D → ℕ) where
-    fleet_unread : (asked : FleetWords) → AsksFleet words asked → (a : Around)
+    fleet_unread : (asked : FleetWords) → AsksFleet words asked → (a : Environment)
         → RanFleet T link step lent took left count asked a a output errors status
     fleet_unread asked asks a = record {
       result = Err NoMemory;
@@ -298,7 +298,7 @@ module _ (words : List (List ℕ)) (w : Outside) (input : Option (List ℕ)) (fa
       told = later;
     }
 
-    watch_unread_so : (asked : WatchWords) → AsksWatch words asked → (a : Around)
+    watch_unread_so : (asked : WatchWords) → AsksWatch words asked → (a : Environment)
         → RanWatch T link step lent took left count asked a a output errors status
     watch_unread_so asked asks a = record {
       result = Err NoMemory;

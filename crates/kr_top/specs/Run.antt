@@ -15,7 +15,7 @@ use Rattle.kr_cmd_messages.specs.declared.fleet_words.FleetWords.{FleetWords}
 use Rattle.kr_cmd_messages.specs.declared.load_words.LoadWords.{LoadWords}
 use Rattle.kr_cmd_messages.specs.declared.watch_words.WatchWords.{WatchWords}
 use Rattle.kr_cmd_steps.specs.Afterwards.{AreLeft}
-use Rattle.kr_cmd_steps.specs.Around.{Around}
+use Rattle.kr_cmd_steps.specs.Environment.{Environment}
 use Rattle.kr_cmd_steps.specs.Ran.{Ran, Readings}
 use Rattle.kr_cmd_fleet.specs.FleetReadings.{FleetReadings}
 use Rattle.kr_cmd_fleet.specs.Fleets.{RanFleet}
@@ -27,7 +27,7 @@ use Rattle.kr_top.specs.Asked.{HeadlineHearing, RanFleetHearing, RanHearing, Ran
 
 pub record Runs (T : Type 0) {L D : Type 0} (link : L → Link)
     (step : L → Exchange → L → Type 0) (lent took : ℕ → L → Type 0)
-    (left : D → Option (List ℕ)) (count : D → ℕ) (words : List (List ℕ)) (old new : Around)
+    (left : D → Option (List ℕ)) (count : D → ℕ) (words : List (List ℕ)) (old new : Environment)
     (output errors : Receipt) (status : ℕ) : Type 0 where
   -- `fleet`, for its operator: a `get` by any replica is answered with the bytes that were put last
   -- at its path, or with a reply that has its cause; of plugins nothing is supposed but that some

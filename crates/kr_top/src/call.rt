@@ -1,7 +1,7 @@
 //! The call that does a command.
 ghost use Rattle.std.specs.Prelude.{◌≡◌, ◌≤◌, None};
 ghost use Rattle.kr_words.specs.Grammar.{texts};
-ghost use Rattle.kr_cmd_steps.specs.Around.{around};
+ghost use Rattle.kr_cmd_steps.specs.Environment.{around};
 ghost use Rattle.kr_cmd_fleet.specs.Fleets.{RanAlone, TellsFleet};
 ghost use Rattle.kr_cmd_messages.specs.Message.{line_of, status_of};
 ghost use Rattle.kr_cmd_messages.specs.Receipts.{Tells, receipt};

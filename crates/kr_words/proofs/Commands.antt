@@ -8,7 +8,7 @@ use Rattle.std.specs.Str.{bytes_eq}
 use Rattle.kr_words.specs.declared.command.Verb.{Verb}
 use Rattle.kr_words.specs.Names.{option_text, required_options, optional, IsRepeatable}
 use Rattle.kr_words.specs.Options.{count_options}
-use Rattle.kr_words.specs.Rules.{before_equals, after_equals, IsPlugin, IsOption, IsValue, HaveTwoNames, IsCommand}
+use Rattle.kr_words.specs.Rules.{before_equals, after_equals, IsPlugin, IsOption, IsOptionValue, HaveTwoNames, IsCommand}
 use Rattle.kr_base.specs.Rules.{IsName}
 use Rattle.kr_words.proofs.Values.{name_once, option_rule}
 use Rattle.kr_words.specs.declared.name.OptionName.{OptionName}
@@ -69,11 +69,11 @@ module _ (verb : Verb) (replicas : ℕ) (option : List ℕ × List ℕ) where
     -- one that is, by its value
     pub its_value : {text : List ℕ} {value : Bool} → text ≡ option.1
         → Contains (required_options verb) name ⊎ Contains (optional verb) name
-        → IsTrue value ↔ IsValue verb replicas name text
+        → IsTrue value ↔ IsOptionValue verb replicas name text
         → IsTrue value ↔ IsOption verb replicas option
     its_value at may decides = (
-      λ t. (name, is, may, subst (IsValue verb replicas name) at (decides.0 t)),
-      λ o. decides.1 (subst (IsValue verb replicas name) (sym at)
+      λ t. (name, is, may, subst (IsOptionValue verb replicas name) at (decides.0 t)),
+      λ o. decides.1 (subst (IsOptionValue verb replicas name) (sym at)
           (option_rule verb replicas name option o is)),
     )
 

@@ -8,7 +8,7 @@ use Rattle.kr_words.specs.declared.name.OptionName.TheVariants.{Limit, Reload, S
 use Rattle.kr_words.specs.Names.{option_text, required_options}
 use Rattle.kr_words.specs.Numerals.{IsDecimal}
 use Rattle.kr_words.specs.Options.{value_of}
-use Rattle.kr_words.specs.Rules.{IsReload, IsCommand, after_equals}
+use Rattle.kr_words.specs.Rules.{IsReloadOption, IsCommand, after_equals}
 use Rattle.kr_words.specs.Arguments.{ReadsNumberAt, IsReloadOf, IsWithin}
 use Rattle.kr_words.specs.Grammar.{replicas_of, HasFewReplicas}
 use Rattle.kr_words.proofs.Values.{value_rule, value_some}
@@ -92,7 +92,7 @@ small_reload : {R : Type 0} (number : R → ℕ) (file : R → List ℕ) (o : Op
     (r : Option R) (replicas : ℕ) → replicas ≤ 16
     → MatchOption r ((n : ℕ) (f : List ℕ) → IsSomeAnd o (λ v. IsReloadOf v n × (f ≡ after_equals v))
     → 2 ^ 64 ≤ n) (λ x. IsSomeAnd o (λ v. IsReloadOf v (number x) × (file x ≡ after_equals v)))
-    → IsSomeAnd o (IsReload replicas) → IsSomeAnd r (λ x. number x < replicas)
+    → IsSomeAnd o (IsReloadOption replicas) → IsSomeAnd r (λ x. number x < replicas)
 small_reload number file None r replicas few m h = absurd h
 small_reload number file (Some v) (Some x) replicas few m h = omega (arith, m.0.1.1, h.2.1, h.3)
 small_reload number file (Some v) None replicas few m h =
@@ -109,5 +109,5 @@ pub reload_given : {R : Type 0} (number : R → ℕ) (file : R → List ℕ) (ve
     → IsSomeAnd r (λ x. number x < replicas_of options)
 reload_given number file verb options r command e few m =
     small_reload number file (value_of options (option_text Reload)) r (replicas_of options) few m
-    (given (IsReload (replicas_of options)) options verb Judge Reload command e
+    (given (IsReloadOption (replicas_of options)) options verb Judge Reload command e
     (2, omega arith, refl) (value_rule {verb = verb} {options = options} Reload command))

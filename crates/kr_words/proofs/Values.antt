@@ -16,7 +16,7 @@ use Rattle.kr_words.specs.declared.name.OptionName.TheVariants.{Size, To, From, 
 use Rattle.kr_words.specs.declared.name.OptionName.TheVariants.{Limit, Since}
 use Rattle.kr_words.specs.Names.{option_text, required_options}
 use Rattle.kr_words.specs.Options.{is_named, value_of, count_options}
-use Rattle.kr_words.specs.Rules.{IsValue, IsOption, IsCommand}
+use Rattle.kr_words.specs.Rules.{IsOptionValue, IsOption, IsCommand}
 
 name_at : List ℕ → OptionName
 name_at text =
@@ -46,9 +46,9 @@ pub name_once : (a b : OptionName) → option_text a ≡ option_text b → a ≡
 name_once a b e = sym (name_at-text a) ∙ ap name_at e ∙ name_at-text b
 
 pub option_rule : (verb : Verb) (replicas : ℕ) (name : OptionName) (option : List ℕ × List ℕ)
-    → IsOption verb replicas option → option.0 ≡ option_text name → IsValue verb replicas name option.1
+    → IsOption verb replicas option → option.0 ≡ option_text name → IsOptionValue verb replicas name option.1
 option_rule verb replicas name option is e =
-    subst (λ n. IsValue verb replicas n option.1) (name_once is.0 name (sym is.1 ∙ e)) is.3
+    subst (λ n. IsOptionValue verb replicas n option.1) (name_once is.0 name (sym is.1 ∙ e)) is.3
 
 first_rule : (P : List ℕ → Type 0) (option : List ℕ × List ℕ) (found : Bool)
     (behind : Option (List ℕ × List ℕ)) → (found ≡ true → P option.1)
@@ -59,10 +59,10 @@ first_rule P option false behind here next = next
 
 each_rule : (verb : Verb) (replicas : ℕ) (name : OptionName) (options : List (List ℕ × List ℕ))
     → All (IsOption verb replicas) options
-    → IfSome (value_of options (option_text name)) (IsValue verb replicas name)
+    → IfSome (value_of options (option_text name)) (IsOptionValue verb replicas name)
 each_rule verb replicas name [] each = tt
 each_rule verb replicas name (option ∷ options) each =
-    first_rule (IsValue verb replicas name) option (is_named (option_text name) option)
+    first_rule (IsOptionValue verb replicas name) option (is_named (option_text name) option)
     (find (is_named (option_text name)) options)
     (λ e. option_rule verb replicas name option
     (All-head (IsOption verb replicas) option options each)
@@ -72,7 +72,7 @@ each_rule verb replicas name (option ∷ options) each =
 -- the value at a name keeps the name's rule
 pub value_rule : {verb : Verb} {options : List (List ℕ × List ℕ)} (name : OptionName)
     → IsCommand verb options → IfSome (value_of options (option_text name))
-    (IsValue verb (count_options options (option_text Replica)) name)
+    (IsOptionValue verb (count_options options (option_text Replica)) name)
 value_rule {verb} {options} name m =
     each_rule verb (count_options options (option_text Replica)) name options m.each
 

@@ -27,8 +27,8 @@ IsPlugin value =
     Contains value 0x3D × IsName (before_equals value) × (1 ≤ length (after_equals value))
 
 -- `N=FILE`: the replica at N, counted from 0, reads the file
-abbrev pub IsReload : ℕ → List ℕ → Type 0
-IsReload replicas value =
+abbrev pub IsReloadOption : ℕ → List ℕ → Type 0
+IsReloadOption replicas value =
     Contains value 0x3D × (n : ℕ) × IsDecimal (before_equals value) n × (n < replicas)
 
 -- the settings of a plan that may be shown
@@ -40,30 +40,30 @@ abbrev pub MayHaveEmptyPath : Verb → Type 0
 MayHaveEmptyPath verb = (verb ≡ Encrypt) ⊎ (verb ≡ Decrypt)
 
 -- the values that an option may have, in a command with so many replicas
-abbrev pub IsValue : Verb → ℕ → OptionName → List ℕ → Type 0
-IsValue verb replicas Config value = ⊤
-IsValue verb replicas Resource value = IsResource value
-IsValue verb replicas Path value = IsPath value ⊎ (MayHaveEmptyPath verb × (value ≡ []))
-IsValue verb replicas Plugin value = IsPlugin value
-IsValue verb replicas Store value = ⊤
-IsValue verb replicas Replica value = ⊤
-IsValue verb replicas Reload value = IsReload replicas value
-IsValue verb replicas File value = ⊤
-IsValue verb replicas Seed value = (n : ℕ) × IsDecimal value n × (n ≤ 18446744073709551615)
-IsValue verb replicas Size value = (n : ℕ) × IsDecimal value n × (1 ≤ n)
-IsValue verb replicas To value = ⊤
-IsValue verb replicas From value = ⊤
-IsValue verb replicas Replicas value = (n : ℕ) × IsDecimal value n × (1 ≤ n)
-IsValue verb replicas Show value = MayBeShown value
-IsValue verb replicas Limit value = (n : ℕ) × IsDecimal value n × (1 ≤ n)
-IsValue verb replicas Since value = (n : ℕ) × IsDecimal value n × (n ≤ 18446744073709551615)
+abbrev pub IsOptionValue : Verb → ℕ → OptionName → List ℕ → Type 0
+IsOptionValue verb replicas Config value = ⊤
+IsOptionValue verb replicas Resource value = IsResource value
+IsOptionValue verb replicas Path value = IsPath value ⊎ (MayHaveEmptyPath verb × (value ≡ []))
+IsOptionValue verb replicas Plugin value = IsPlugin value
+IsOptionValue verb replicas Store value = ⊤
+IsOptionValue verb replicas Replica value = ⊤
+IsOptionValue verb replicas Reload value = IsReloadOption replicas value
+IsOptionValue verb replicas File value = ⊤
+IsOptionValue verb replicas Seed value = (n : ℕ) × IsDecimal value n × (n ≤ 18446744073709551615)
+IsOptionValue verb replicas Size value = (n : ℕ) × IsDecimal value n × (1 ≤ n)
+IsOptionValue verb replicas To value = ⊤
+IsOptionValue verb replicas From value = ⊤
+IsOptionValue verb replicas Replicas value = (n : ℕ) × IsDecimal value n × (1 ≤ n)
+IsOptionValue verb replicas Show value = MayBeShown value
+IsOptionValue verb replicas Limit value = (n : ℕ) × IsDecimal value n × (1 ≤ n)
+IsOptionValue verb replicas Since value = (n : ℕ) × IsDecimal value n × (n ≤ 18446744073709551615)
 
 -- an option of the command, with a value that it may have
 abbrev pub IsOption : Verb → ℕ → List ℕ × List ℕ → Type 0
 IsOption verb replicas option =
     (name : OptionName) × (option.0 ≡ option_text name)
     × (Contains (required_options verb) name ⊎ Contains (optional verb) name)
-    × IsValue verb replicas name option.1
+    × IsOptionValue verb replicas name option.1
 
 -- two plugins have two names
 abbrev pub HaveTwoNames : List ℕ × List ℕ → List ℕ × List ℕ → Type 0

@@ -2,9 +2,9 @@
 ghost use Rattle.std.specs.Prelude.{◌≡◌, ◌↔◌, ◌⊎◌, ◌≤◌, ◌<◌, ℕ, IsTrue, MatchOption, Contains, All, AllPairs};
 ghost use Rattle.kr_words.specs.Names.{option_text, required_options, optional, IsRepeatable};
 ghost use Rattle.kr_words.specs.Options.{count_options};
-ghost use Rattle.kr_words.specs.Rules.{before_equals, after_equals, IsPlugin, IsReload, MayBeShown};
+ghost use Rattle.kr_words.specs.Rules.{before_equals, after_equals, IsPlugin, IsReloadOption, MayBeShown};
 ghost use Rattle.kr_words.specs.Rules.{MayHaveEmptyPath};
-ghost use Rattle.kr_words.specs.Rules.{IsValue, IsOption, HaveTwoNames, IsCommand};
+ghost use Rattle.kr_words.specs.Rules.{IsOptionValue, IsOption, HaveTwoNames, IsCommand};
 ghost use Rattle.kr_words.specs.Numerals.{IsDecimal};
 ghost use Rattle.kr_words.specs.declared.name.OptionName.{OptionName};
 
@@ -50,7 +50,7 @@ fn is_option(verb: Verb, replicas: usize, option: &(Text, Text)) -> bool
 
 /// Whether the option may have the value.
 fn is_value(verb: Verb, replicas: usize, name: OptionName, value: &str) -> bool
-    ensures { IsTrue result ↔ IsValue verb replicas name value.now }
+    ensures { IsTrue result ↔ IsOptionValue verb replicas name value.now }
 {
     match name {
         OptionName::Config
@@ -105,7 +105,7 @@ fn is_plugin(value: &str) -> bool
 
 /// Whether it is `N=FILE`, of a replica that there is.
 fn is_reload(replicas: usize, value: &str) -> bool
-    ensures { IsTrue result ↔ IsReload replicas value.now }
+    ensures { IsTrue result ↔ IsReloadOption replicas value.now }
 {
     match split_at_equals(value) {
         Some((replica, _)) => is_below(replica, replicas),

@@ -110,7 +110,7 @@ module _ {Keeps : (old new : Caller) → Type 0} (kept : KeptByEvents Keeps) whe
         kept.reads old new (event.Fetch path) answer.Absent tt d.0.absent
     finds_by path p old new olds news (Ok (read.Value revision plain stale)) d =
         kept.reads old new (event.Fetch path) (answer.Found d.0) tt d.1.found
-    finds_by path p old new olds news (Err (refusal.Refused why)) d =
+    finds_by path p old new olds news (Err (refusal.Value why)) d =
         kept.reads old new (event.Fetch path) (answer.Found d.0) tt d.1.found
     finds_by path p old new olds news (Err (refusal.PluginFailed name)) d =
         kept.reads old new (event.Fetch path) (answer.Found d.0) tt d.1.found

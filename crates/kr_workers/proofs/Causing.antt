@@ -171,7 +171,7 @@ HasCauseAt link count asked old reply new =
 
 module _ {L D : Type 0} (link : L → Link) (count : D → ℕ) (asked : ScriptLine) where
   abbrev pub Causes : Caller → List L → D → CallNo → Caller → List L → D → Type 0
-  Causes old olds dice (refusal.Refused why) new news after = IsDefined asked (told.Value why)
+  Causes old olds dice (refusal.Value why) new news after = IsDefined asked (told.Value why)
   Causes old olds dice (refusal.PluginFailed name) new news after =
       AsksPlugins asked × FaultRose link name olds news
   Causes old olds dice refusal.DiceFailed new news after =
@@ -198,7 +198,7 @@ module _ {L D : Type 0} (link : L → Link) (count : D → ℕ) (asked : ScriptL
     pub refused_caused : (why : CallNo) → Ok reply ≡ told_of_refusal old.caller.seat why
         → Causes old.caller old.links old.dice why new.caller new.links new.dice
         → HasCauseAt link count asked old reply new
-    refused_caused (refusal.Refused why) is h = told_caused (told.Value why) is h
+    refused_caused (refusal.Value why) is h = told_caused (told.Value why) is h
     refused_caused (refusal.PluginFailed name) is h = told_caused (told.FaultPlugin name) is h
     refused_caused refusal.DiceFailed is h =
         told_caused (told.FaultDice old.caller.seat) is (h.0, refl, h.1)
@@ -297,8 +297,8 @@ module _ {L D : Type 0} (link : L → Link) (left : D → Option (List ℕ))
       → Puts left count resource path plain p old dice (Err why) new after
       → Causes link count (line.Put resource path plain) old olds dice why new news after
   puts_caused resource path plain p old new olds news dice after
-      (refusal.Refused value.LooksEncrypted) d = d.0.2
-  puts_caused resource path plain p old new olds news dice after (refusal.Refused value.TooLarge)
+      (refusal.Value value.LooksEncrypted) d = d.0.2
+  puts_caused resource path plain p old new olds news dice after (refusal.Value value.TooLarge)
       d = d.0.1
   puts_caused resource path plain p old new olds news dice after refusal.DiceFailed d = (tt, d.0.2)
   puts_caused resource path plain p old new olds news dice after refusal.StoreFailed d =
@@ -358,7 +358,7 @@ module _ {L D : Type 0} (link : L → Link) (left : D → Option (List ℕ))
   finds_caused : (path : List ℕ) (p : Publication) (old new : Caller) (olds news : List L)
       (dice after : D) (why : CallNo) → Finds link path p old olds (Err why) new news
       → Causes link count (line.Get path) old olds dice why new news after
-  finds_caused path p old new olds news dice after (refusal.Refused why) d = d.1.content.0
+  finds_caused path p old new olds news dice after (refusal.Value why) d = d.1.content.0
   finds_caused path p old new olds news dice after (refusal.PluginFailed name) d =
       (tt, d.1.unseals.rose)
   finds_caused path p old new olds news dice after refusal.Spent d = tt

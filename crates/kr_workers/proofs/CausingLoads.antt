@@ -21,7 +21,7 @@ use Rattle.kr_history.specs.declared.outcome.Joining.{Joining}
 use Rattle.kr_history.specs.declared.outcome.Joining.TheVariants as joining
 use Rattle.kr_fleet.specs.declared.outcome.Loaded.{Loaded}
 use Rattle.kr_fleet.specs.declared.outcome.Loaded.TheVariants as loaded
-use Rattle.kr_fleet.specs.LoadCalls.{AreKeysSame, AsksInVain, BringsBy, IsJoin, IsRefresh, IsReload, Refreshes, RenewsBy, plugin_names, reload_of}
+use Rattle.kr_fleet.specs.LoadCalls.{AreKeysSame, AsksInVain, BringsBy, IsJoin, IsRefresh, IsReload, Refreshes, RenewsTo, plugin_names, reload_of}
 use Rattle.kr_provider.specs.AskedLinks.{AskedOnly}
 use Rattle.kr_script.specs.declared.script.ScriptLine.{ScriptLine}
 use Rattle.kr_script.specs.declared.script.ScriptLine.TheVariants as line
@@ -188,7 +188,7 @@ module _ {L D : Type 0} (link : L → Link) (left : D → Option (List ℕ))
       (done : Loaded) (given : Answer) (Is : Gave → Type 0) → Is (gave_of given)
       → ((number : ℕ) (p : Publication) (from to : Caller)
       → Refreshes link left count replica number p from olds dice (Ok done) to news after
-      → RenewsBy link left count replica number p from olds dice given to news after)
+      → RenewsTo link left count replica number p from olds dice given to news after)
       → IsRefresh link left count replica old olds dice (Ok done) new news after
       → OwnGave old new.seen Is
   refresh_gave replica old new olds news dice after done given Is is renews (inl e) = absurd e

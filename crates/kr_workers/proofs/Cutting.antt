@@ -17,7 +17,7 @@ use Rattle.kr_fleet.specs.declared.outcome.Loaded.TheVariants as loaded
 use Rattle.kr_fleet.specs.declared.outcome.Read.{Read}
 use Rattle.kr_fleet.specs.declared.outcome.Read.TheVariants as found
 use Rattle.kr_fleet.specs.SingleCalls.{IsDelete, IsLeave}
-use Rattle.kr_fleet.specs.LoadCalls.{BringsBy, IsRefresh, Refreshes, RefreshesBy, plugin_names}
+use Rattle.kr_fleet.specs.LoadCalls.{BringsBy, IsRefresh, Refreshes, StopsRefresh, plugin_names}
 use Rattle.kr_fleet.specs.ReadCalls.{Finds, IsRead}
 use Rattle.kr_fleet.specs.WriteCalls.{IsWrite, Puts}
 use Rattle.kr_provider.specs.AskedLinks.{AskedOnly}
@@ -71,7 +71,7 @@ module _ {L : Type 0} (link : L → Link) (path : List ℕ) where
   finds_one p old olds (Ok found.Absent) new news d = omega (arith, d.0.absent.left_is)
   finds_one p old olds (Ok (found.Value revision plain stale)) new news d =
       omega (arith, d.1.found.left_is)
-  finds_one p old olds (Err (refusal.Refused why)) new news d = omega (arith, d.1.found.left_is)
+  finds_one p old olds (Err (refusal.Value why)) new news d = omega (arith, d.1.found.left_is)
   finds_one p old olds (Err (refusal.PluginFailed name)) new news d =
       omega (arith, d.1.found.left_is)
   finds_one p old olds (Err refusal.Spent) new news d = left_stays old new d.0.same
@@ -99,7 +99,7 @@ module _ {D : Type 0} (left : D → Option (List ℕ)) (count : D → ℕ)
     (resource path plain : List ℕ) where
   refused_one : (p : Publication) (old : Caller) (dice : D) (why : ValueNo) (new : Caller)
       (after : D)
-      → Puts left count resource path plain p old dice (Err (refusal.Refused why)) new after
+      → Puts left count resource path plain p old dice (Err (refusal.Value why)) new after
       → old.left ≤ new.left + 1
   refused_one p old dice LooksEncrypted new after d = left_stays old new d.1
   refused_one p old dice TooLarge new after d = left_stays old new d.1
@@ -109,7 +109,7 @@ module _ {D : Type 0} (left : D → Option (List ℕ)) (count : D → ℕ)
       (new : Caller) (after : D) → Puts left count resource path plain p old dice done new after
       → old.left ≤ new.left + 1
   puts_one p old dice (Ok revision) new after d = omega (arith, d.put.left_is)
-  puts_one p old dice (Err (refusal.Refused why)) new after d =
+  puts_one p old dice (Err (refusal.Value why)) new after d =
       refused_one p old dice why new after d
   puts_one p old dice (Err refusal.DiceFailed) new after d = left_stays old new d.1
   puts_one p old dice (Err refusal.StoreFailed) new after d = omega (arith, d.put.left_is)
@@ -165,7 +165,7 @@ module _ {L D : Type 0} (link : L → Link) (left : D → Option (List ℕ))
 
   stops_one : (replica number : ℕ) (p : Publication) (old : Caller) (olds : List L) (dice : D)
       (why : CallNo) (new : Caller) (news : List L) (after : D)
-      → RefreshesBy link left count replica number p old olds dice why new news after
+      → StopsRefresh link left count replica number p old olds dice why new news after
       → old.left ≤ new.left + 1
   stops_one replica number p old olds dice why new news after (inl d) = left_stays old new d.1
   stops_one replica number p old olds dice why new news after (inr d) = brings_one p.rows _ replica
@@ -188,7 +188,7 @@ module _ {L D : Type 0} (link : L → Link) (left : D → Option (List ℕ))
 
   none_refreshed : (replica number : ℕ) (p : Publication) (old : Caller) (olds : List L) (dice : D)
       (new : Caller) (news : List L) (after : D)
-      → RefreshesBy link left count replica number p old olds dice refusal.Spent new news
+      → StopsRefresh link left count replica number p old olds dice refusal.Spent new news
       after → old.left ≡ 0
   none_refreshed replica number p old olds dice new news after (inl d) = absurd d.0
   none_refreshed replica number p old olds dice new news after (inr d) = d.brought.1.spent

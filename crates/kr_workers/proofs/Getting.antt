@@ -325,7 +325,7 @@ module _ {L : Type 0} (link : L → Link) (path : List ℕ) (olds news : List L)
         content_read p adopted acted d.0 (Ok (record { plain = plain; stale = stale }))
             (data_of plain) d.1.found d.1.named d.1.content d.1.unseals d.1.unseals.is.0 d.1.by_any,
       )
-  found_tells number p before adopted acted after it (Err (refusal.Refused why)) d =
+  found_tells number p before adopted acted after it (Err (refusal.Value why)) d =
       fetch_there history o seat ahead part p before adopted acted after path (answer.Found d.0)
       d.1.found it (λ o front fetch. (revision : ℕ) × (fetch.line.gave ≡ gave.Found revision)
       × ReadsContent o path (refused why) front fetch) (

@@ -152,7 +152,7 @@ module _ (history : List Entry) (o : Opening) (seat : ℕ) (ahead part : List En
         (adopter before adopted acted after p it)
         (adopted_law before adopted it.replica it.number p it.adopts) d.0
         (record { plain = plain; stale = stale }) d.1 honest)
-    found_heard number p before adopted acted after it (Err (refusal.Refused why)) d =
+    found_heard number p before adopted acted after it (Err (refusal.Value why)) d =
         fetch_there history o seat ahead part p before adopted acted after path (answer.Found d.0)
         d.1.found it (λ o front fetch. IsHeardContent heard o path (refused why) front)
         (λ opens agrees honest. refusal_is opens cache kept exchanges (agree opens agrees).0

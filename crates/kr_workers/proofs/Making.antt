@@ -155,9 +155,9 @@ module _ {L D : Type 0} (link : L → Link) (left : D → Option (List ℕ))
     puts_make seat p old new dice after (Ok revision) tells d =
         event_makes old new (event.Put path resource plain d.stored) (answer.Written revision)
         d.put (is, ap (reply_in reply) tells)
-    puts_make seat p old new dice after (Err (refusal.Refused value.LooksEncrypted)) tells d =
+    puts_make seat p old new dice after (Err (refusal.Value value.LooksEncrypted)) tells d =
         same_makes OfLine old new d.1
-    puts_make seat p old new dice after (Err (refusal.Refused value.TooLarge)) tells d =
+    puts_make seat p old new dice after (Err (refusal.Value value.TooLarge)) tells d =
         same_makes OfLine old new d.1
     puts_make seat p old new dice after (Err refusal.DiceFailed) tells d =
         same_makes OfLine old new d.1

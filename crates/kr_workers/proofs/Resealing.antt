@@ -151,8 +151,8 @@ module _ {L D : Type 0} (link : L → Link) (step : L → Exchange → L → Typ
       quiet_keeps old new (event.Put path resource plain d.stored) (answer.Written revision) refl
       d.put
   puts_keep resource path plain p old new dice after
-      (Err (refusal.Refused value.LooksEncrypted)) d = same_keeps old new d.1
-  puts_keep resource path plain p old new dice after (Err (refusal.Refused value.TooLarge)) d =
+      (Err (refusal.Value value.LooksEncrypted)) d = same_keeps old new d.1
+  puts_keep resource path plain p old new dice after (Err (refusal.Value value.TooLarge)) d =
       same_keeps old new d.1
   puts_keep resource path plain p old new dice after (Err refusal.DiceFailed) d =
       same_keeps old new d.1

@@ -362,9 +362,9 @@ module _ {L D : Type 0} (link : L → Link) (left : D → Option (List ℕ))
           → Puts left count resource path plain p adopted dice result acted after
           → IfTold PutsPart (told_of_write old.seat result)
       puts_part (Ok revision) d = put_one d.stored (answer.Written revision) d.put
-      puts_part (Err (refusal.Refused value.LooksEncrypted)) d =
+      puts_part (Err (refusal.Value value.LooksEncrypted)) d =
           put_refused value.LooksEncrypted (d.0.1, d.0.2) d.1
-      puts_part (Err (refusal.Refused value.TooLarge)) d = put_refused value.TooLarge d.0.1 d.1
+      puts_part (Err (refusal.Value value.TooLarge)) d = put_refused value.TooLarge d.0.1 d.1
       puts_part (Err refusal.DiceFailed) d = (refl, d.0.2, put_none d.1)
       puts_part (Err refusal.StoreFailed) d = put_one d.stored answer.StoreFailed d.put
       puts_part (Err (refusal.StoreFull needed)) d =
@@ -414,7 +414,7 @@ module _ {L D : Type 0} (link : L → Link) (left : D → Option (List ℕ))
           (λ n. HoldsPart own part (λ p number mids.
           IsOne mids (did.Fetch path) (gave.Found n) (λ e. ⊤))) d.2
           (get_one (answer.Found d.0) d.1.found (λ p e. ⊤) tt)
-      gets_part (Err (refusal.Refused why)) d =
+      gets_part (Err (refusal.Value why)) d =
           (d.0.revision, get_one (answer.Found d.0) d.1.found (λ p e. ⊤) tt)
       gets_part (Err (refusal.PluginFailed name)) d = (
         d.1.unseals.rose,

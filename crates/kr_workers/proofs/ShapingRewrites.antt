@@ -520,8 +520,8 @@ module _ {S : Type 0} (reader : Reader S) where
           → EndsByOver reader.Reads reader.Meanwhile left count own [] met old from dice (Err why)
           report new to after
           → IfTold RewritesPart (told_of_refusal old.seat why)
-      cut_part met (refusal.Refused why) report e =
-          absurd (last_step met (Err (refusal.Refused why)) report e)
+      cut_part met (refusal.Value why) report e =
+          absurd (last_step met (Err (refusal.Value why)) report e)
       cut_part met (refusal.PluginFailed name) report e =
           let s = last_step met (Err (refusal.PluginFailed name)) report e in (
             reader.later name from e.mids to e.walks_asked s.0,

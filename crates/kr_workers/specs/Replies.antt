@@ -21,7 +21,7 @@ module _ (seat : ℕ) where
   -- why a call was cut short: a fault names the plugin, the random source of this seat, or the
   -- store
   abbrev pub told_of_refusal : CallNo → Reply
-  told_of_refusal (refusal.Refused why) = Ok (told.Value why)
+  told_of_refusal (refusal.Value why) = Ok (told.Value why)
   told_of_refusal (refusal.PluginFailed name) = Ok (told.FaultPlugin name)
   told_of_refusal refusal.DiceFailed = Ok (told.FaultDice seat)
   told_of_refusal refusal.StoreFailed = Ok told.FaultStore

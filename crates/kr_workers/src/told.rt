@@ -13,7 +13,7 @@ pub(crate) fn told_of_refusal(seat: u32, why: CallNo) -> Result<Told, Spent>
     ensures { result ≡ told_of_refusal seat why }
 {
     match why {
-        CallNo::Refused(why) => Ok(Told::Value { why }),
+        CallNo::Value(why) => Ok(Told::Value { why }),
         CallNo::PluginFailed { name } => Ok(Told::FaultPlugin { name }),
         CallNo::DiceFailed => Ok(Told::FaultDice { seat }),
         CallNo::StoreFailed => Ok(Told::FaultStore),

@@ -102,9 +102,9 @@ module _ {L D : Type 0} (link : L → Link) (left : D → Option (List ℕ))
         → Puts left count resource path plain p from old done to new → Drew 44 old new
     puts_draw p from to old new (Ok revision) d =
         sealed p.seeds (writer_at p resource) path plain old new d.stored d.seals
-    puts_draw p from to old new (Err (refusal.Refused value.LooksEncrypted)) d =
+    puts_draw p from to old new (Err (refusal.Value value.LooksEncrypted)) d =
         unsealed p.seeds (writer_at p resource) path plain old new sealing.LooksEncrypted d.0
-    puts_draw p from to old new (Err (refusal.Refused value.TooLarge)) d =
+    puts_draw p from to old new (Err (refusal.Value value.TooLarge)) d =
         unsealed p.seeds (writer_at p resource) path plain old new
         (sealing.TooLarge (length plain)) d.0
     puts_draw p from to old new (Err refusal.DiceFailed) d =

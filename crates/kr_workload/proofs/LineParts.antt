@@ -85,9 +85,9 @@ module _ {L D : Type 0} (link : L → Link) (left : D → Option (List ℕ))
     puts_make p old new dice after (Ok revision) d =
         event_makes old new (event.Put path resource plain d.stored) (answer.Written revision)
         d.put is
-    puts_make p old new dice after (Err (refusal.Refused value.LooksEncrypted)) d =
+    puts_make p old new dice after (Err (refusal.Value value.LooksEncrypted)) d =
         same_makes OfLine old new d.1
-    puts_make p old new dice after (Err (refusal.Refused value.TooLarge)) d =
+    puts_make p old new dice after (Err (refusal.Value value.TooLarge)) d =
         same_makes OfLine old new d.1
     puts_make p old new dice after (Err refusal.DiceFailed) d = same_makes OfLine old new d.1
     puts_make p old new dice after (Err refusal.StoreFailed) d =

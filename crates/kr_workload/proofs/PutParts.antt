@@ -49,7 +49,7 @@ module _ (resource path plain : List ℕ) (part : List Entry) where
   TellsPut reply = ⊤
 
   abbrev TellsRefusal : CallNo → Type 0
-  TellsRefusal (refusal.Refused why) = TellsValue why
+  TellsRefusal (refusal.Value why) = TellsValue why
   TellsRefusal why = ⊤
 
   abbrev TellsWrite : Result ℕ CallNo → Type 0
@@ -108,7 +108,7 @@ module _ {D : Type 0} (left : D → Option (List ℕ)) (count : D → ℕ)
           did_is = d.put.records.did_is;
           gave_is = d.put.records.gave_is;
         }
-    puts_tell (Err (refusal.Refused value.LooksEncrypted)) d =
+    puts_tell (Err (refusal.Value value.LooksEncrypted)) d =
         let part_so : part ≡ adopts.entry ∷ (lets_go.entry ∷ []) =
         part_is old new part (adopts.entry ∷ (lets_go.entry ∷ [])) adds
         (ap (λ (c : Caller). c.mine) lets_go.new_is
@@ -137,7 +137,7 @@ module _ {D : Type 0} (left : D → Option (List ℕ)) (count : D → ℕ)
   write_tells : (result : Result ℕ CallNo)
       → IsWrite left count resource path plain replica old dice result new after → Says result
   write_tells (Ok revision) (inl e) = absurd e
-  write_tells (Err (refusal.Refused why)) (inl e) = absurd e.0
+  write_tells (Err (refusal.Value why)) (inl e) = absurd e.0
   write_tells result (inr h) = let_go_tells h.number h.p h.adopted h.acted h.done result h.adopts
       h.does h.lets_go
   write_tells (Err other) (inl e) = tt
@@ -158,7 +158,7 @@ module _ {D : Type 0} (left : D → Option (List ℕ)) (count : D → ℕ)
   refused_tells : (seat : ℕ) (why : CallNo) (reply : Told)
       → Ok reply ≡ told_of_refusal seat why → TellsRefusal resource path plain part why
       → Tells reply
-  refused_tells seat (refusal.Refused why) reply is t =
+  refused_tells seat (refusal.Value why) reply is t =
       subst (λ r. Tells r) (sym (ap (reply_in reply) is)) t
   refused_tells seat refusal.Spent reply is t =
       absurd (subst is_ok is tt)

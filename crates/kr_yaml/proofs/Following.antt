@@ -18,7 +18,7 @@ use Rattle.kr_yaml.specs.inner.TextReading.{line_tokens}
 use Rattle.kr_base.specs.Numbering.{next_place}
 use Rattle.kr_yaml.specs.Reads.{plain, MakesTree, FormNone, FormTwice, FormDeep, BreaksTree, IsFirst}
 use Rattle.kr_yaml.specs.Reads.{ReadsTree, OnlyTree, NoTree}
-use Rattle.kr_yaml.specs.inner.Progress.{Fails, Moves, IsGoing, Stays, Extends, ReadsLines}
+use Rattle.kr_yaml.specs.inner.Progress.{Fails, Moves, IsGoing, HoldsTokens, Extends, ReadsLines}
 use Rattle.kr_yaml.specs.declared.standing.Standing.{Standing as Nodes}
 use Rattle.kr_yaml.specs.declared.tree.Tree.{Tree}
 use Rattle.kr_yaml.specs.declared.progress.Progress.{Progress}
@@ -135,8 +135,8 @@ frames_count nodes = let few : length nodes.nodes.items ≤ 16 =
     nodes.few in omega (arith, frames_length nodes.nodes.items)
 
 -- one token more
-pub moved : (us : List (ℕ × Token)) (n : ℕ) (t : Token) (old new : Progress) → Stays us old
-    → Moves old n t new → Stays (us ++ (n, t) ∷ []) new
+pub moved : (us : List (ℕ × Token)) (n : ℕ) (t : Token) (old new : Progress) → HoldsTokens us old
+    → Moves old n t new → HoldsTokens (us ++ (n, t) ∷ []) new
 moved us n t (Going old) (Going new) g h =
     let m = grows 0 (plain us) (frame_views old.nodes.items) (option_map view old.value) g.shape
     g.stands t (omega arith) (state_view new.nodes.items new.value) h.0 in
@@ -168,12 +168,12 @@ same_items [] = refl
 same_items (x ∷ xs) = ap (λ l. x ∷ l) (same_items xs)
 
 pub extends_none : (old : Progress) (n : ℕ) → Extends old n [] old
-extends_none old n = λ us h. subst (λ l. Stays l old) (sym (append-nil us)) h
+extends_none old n = λ us h. subst (λ l. HoldsTokens l old) (sym (append-nil us)) h
 
 pub extends_more : (old now new : Progress) (n : ℕ) (ts : List Token) (t : Token)
     → Extends old n ts now → Moves now n t new → Extends old n (ts ++ t ∷ []) new
 extends_more old now new n ts t e m = λ us h.
-    subst (λ l. Stays l new) (append_assoc us (at_line n ts) ((n, t) ∷ [])
+    subst (λ l. HoldsTokens l new) (append_assoc us (at_line n ts) ((n, t) ∷ [])
     ∙ ap (λ l. us ++ l) (sym (numbered_push n ts t))) (moved (us ++ at_line n ts) n t now new
     (e us h) m)
 
@@ -196,7 +196,7 @@ pub record Reading (lines : List (List ℕ)) (i n : ℕ) (first : Bool) (progres
   where
     pub us : List (ℕ × Token)
     pub walked : tokens_from 1 true lines ≡ with_seen us (tokens_from n first (drop i lines))
-    pub stays : Stays us progress
+    pub stays : HoldsTokens us progress
 
 pub reading_begins : (lines : List (List ℕ)) (nodes : Nodes) → nodes.nodes.items ≡ []
     → nodes.value ≡ None → Reading lines 0 1 true (Going nodes)
@@ -254,7 +254,7 @@ reading_stops lines i n first old line r h e = r.walked
 
 pub reading_ends : (lines : List (List ℕ)) (i n : ℕ) (first : Bool) (old : Progress)
     → Reading lines i n first old → i ≡ length lines → (us : List (ℕ × Token))
-    × (tokens_from 1 true lines ≡ Ok us) × Stays us old
+    × (tokens_from 1 true lines ≡ Ok us) × HoldsTokens us old
 reading_ends lines i n first old r h = (
   r.us,
   r.walked
@@ -268,7 +268,7 @@ pub read_made : (wanted : Result (List (ℕ × Token)) ℕ) (progress : Progress
     → view tree ≡ closed_value (frame_views nodes.nodes.items) (option_map view nodes.value)
     → ReadsTree wanted tree
 read_made wanted progress nodes tree r e t = subst (λ w. ReadsTree w tree) (sym r.1)
-    (subst (MakesTree (plain r.0)) (sym t) (going_makes r.0 nodes (subst (Stays r.0) e r.2)))
+    (subst (MakesTree (plain r.0)) (sym t) (going_makes r.0 nodes (subst (HoldsTokens r.0) e r.2)))
 
 pub reads_only : (wanted : Result (List (ℕ × Token)) ℕ) (tree : Tree) → ReadsTree wanted tree
     → OnlyTree wanted (view tree)
@@ -279,4 +279,4 @@ reads_only (Err n) tree m = m
 pub broken_none : (wanted : Result (List (ℕ × Token)) ℕ) (progress : Progress) (why : YamlNo)
     → ReadsLines wanted (Ok progress) → progress ≡ Broken why → NoTree wanted why
 broken_none wanted progress why r e = subst (λ w. NoTree w why) (sym r.1)
-    (first_none r.0 why (subst (Stays r.0) e r.2))
+    (first_none r.0 why (subst (HoldsTokens r.0) e r.2))

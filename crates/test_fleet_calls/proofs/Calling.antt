@@ -12,7 +12,7 @@ use Rattle.kr_provider.specs.KeyPages.{KeyPages, size_of}
 use Rattle.kr_provider.specs.Names.{HasLinks, names_of}
 use Rattle.kr_provider.specs.Publication.{Publication}
 use Rattle.kr_history.specs.declared.call.CallNo.{CallNo}
-use Rattle.kr_history.specs.declared.call.CallNo.TheVariants.{Refused, PluginFailed, DiceFailed, StoreFailed, StoreFull, Unhealthy, Gone, Spent, NoMemory}
+use Rattle.kr_history.specs.declared.call.CallNo.TheVariants.{Value, PluginFailed, DiceFailed, StoreFailed, StoreFull, Unhealthy, Gone, Spent, NoMemory}
 use Rattle.kr_rollout.specs.declared.line.Did.{Did}
 use Rattle.kr_history.specs.Acting.{Caller}
 use Rattle.kr_rollout.specs.Callers.{holding, reloads_in}

@@ -139,7 +139,7 @@ pub fn tell<T: Answer>(alloc: Global, page: &mut Page, made: Result<T, Wrong>) {
 /// Adds why a call was cut short.
 fn add_refusal(page: &mut Page, why: &CallNo) {
     match why {
-        CallNo::Refused(why) => page.counted("refused", why.number() as u64),
+        CallNo::Value(why) => page.counted("refused", why.number() as u64),
         CallNo::PluginFailed { name } => page.named("plugin", name.as_str()),
         CallNo::DiceFailed => page.word("dice"),
         CallNo::StoreFailed => page.word("store"),

@@ -9,7 +9,7 @@ use Rattle.kr_rollout.specs.Cores.{CoreState}
 use Rattle.kr_rollout.specs.Openings.{opening_by}
 use Rattle.kr_store.specs.Stores.{Kept}
 use Rattle.kr_watch.specs.declared.item.Item.{Item}
-use Rattle.kr_cmd_steps.specs.Around.{Around}
+use Rattle.kr_cmd_steps.specs.Environment.{Environment}
 use Rattle.kr_cmd_fleet.specs.FleetFiles.{NamedRows, no_file, file_entries}
 use Rattle.kr_cmd_fleet.specs.Fleets.{Begun, Replicas, publishing}
 use Rattle.kr_cmd_fleet.specs.declared.fleet_file.LoadedFleet.{LoadedFleet}
@@ -28,16 +28,16 @@ MayPublish names files file = bytes_eq file no_file ≡ false
     → (rows : List ConfigEntry) × (file_entries files file ≡ Some rows) × HasLinks names rows
 
 -- with these links and this random source of the first seat out
-abbrev pub with_first : {L : Type 0} → (L → Link) → List L → Option (List ℕ) → ℕ → Around
-    → Around
+abbrev pub with_first : {L : Type 0} → (L → Link) → List L → Option (List ℕ) → ℕ → Environment
+    → Environment
 with_first link links left count a =
     with_lent_links link 0 links (with_lent_dice 0 left count a)
 
 -- one replica was gone through: what the others do completes it; or it ended the command
-abbrev pub PublishesNext : List NamedRows → (replica : List ℕ × List ℕ) → (old new : Around)
+abbrev pub PublishesNext : List NamedRows → (replica : List ℕ × List ℕ) → (old new : Environment)
     → Result (Option Publication) Stop → Type 0
 PublishesNext files replica old new (Ok published) =
-    (made : Replicas) (others : List (List ℕ × List ℕ)) (end : Around)
+    (made : Replicas) (others : List (List ℕ × List ℕ)) (end : Environment)
     (result : Result Replicas Stop)
     → Does (publishing files (made ++ published ∷ []) others) new end result
     → Does (publishing files made (replica ∷ others)) old end result

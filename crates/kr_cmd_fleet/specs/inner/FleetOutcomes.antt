@@ -8,7 +8,7 @@ use Rattle.kr_rollout.specs.declared.opening.Entry.{Entry}
 use Rattle.kr_workers.specs.declared.budget.BudgetNo.{BudgetNo}
 use Rattle.kr_workers.specs.declared.budget.BudgetNo.TheVariants as budget
 use Rattle.kr_workers.specs.declared.worker.Worker as fleet_worker
-use Rattle.kr_cmd_steps.specs.Around.{Around, IsHome}
+use Rattle.kr_cmd_steps.specs.Environment.{Environment, IsHome}
 use Rattle.kr_cmd_fleet.specs.FleetFiles.{FleetPlan, NamedRows}
 use Rattle.kr_cmd_fleet.specs.Fleets.{Begun, FailsToSettle, Replicas, RunsFleet, StartsNone, rows_of_replica, settled_behind}
 use Rattle.kr_cmd_steps.specs.Steps.{Steps}
@@ -21,7 +21,7 @@ use Rattle.kr_cmd_fleet.specs.inner.Readings.{KnowsItems}
 use Rattle.kr_cmd_steps.specs.inner.Phases.{Does}
 
 -- what the workers ran from, where the store was settled behind them
-abbrev pub settled_if : Bool → (store : List ℕ) → Around → Around
+abbrev pub settled_if : Bool → (store : List ℕ) → Environment → Environment
 settled_if false store mid = mid
 settled_if true store mid = settled_behind store mid
 
@@ -40,10 +40,10 @@ module _ (T : Type 0) {L D : Type 0} (link : L → Link)
     (left : D → Option (List ℕ)) (count : D → ℕ) where
   -- the workers ran, and left this record; the store was settled behind them, if so
   pub record LeavesRecord (Begins : Beginning T L D) (settled watched : Bool) (steps : Steps Begun)
-      (store : List ℕ) (plan : FleetPlan) (old new : Around) (made : Record) : Type 0 where
+      (store : List ℕ) (plan : FleetPlan) (old new : Environment) (made : Record) : Type 0 where
     pub begun : Begun
     pub plan_is : begun.plan ≡ plan
-    pub mid : Around
+    pub mid : Environment
     pub does : Does steps old mid (Ok begun)
     pub history : List Entry
     pub ended : List (fleet_worker.Worker T L D)
@@ -59,18 +59,18 @@ module _ (T : Type 0) {L D : Type 0} (link : L → Link)
     pub home : IsHome old new
 
   -- memory lacked for the workers
-  pub record LacksWorkers (steps : Steps Begun) (store : List ℕ) (old new : Around)
+  pub record LacksWorkers (steps : Steps Begun) (store : List ℕ) (old new : Environment)
       (stop : Stop) : Type 0 where
     pub stops : stop ≡ NoMemory
     pub begun : Begun
-    pub mid : Around
+    pub mid : Environment
     pub does : Does steps old mid (Ok begun)
     pub none : StartsNone store begun mid new
     pub home : IsHome old new
 
   -- what these steps up to the workers give
   abbrev pub RunsBy : Beginning T L D → (watched : Bool) → Steps Begun → (store : List ℕ)
-      → FleetPlan → (old new : Around) → Result Record Stop → Type 0
+      → FleetPlan → (old new : Environment) → Result Record Stop → Type 0
   RunsBy Begins watched steps store plan old new (Ok made) =
       LeavesRecord Begins false watched steps store plan old new made
   RunsBy Begins watched steps store plan old new (Err stop) =
@@ -78,9 +78,9 @@ module _ (T : Type 0) {L D : Type 0} (link : L → Link)
 
   -- the workers ran, and the store couldn't be settled behind them
   pub record LacksSettling (Begins : Beginning T L D) (steps : Steps Begun) (store : List ℕ)
-      (old new : Around) (stop : Stop) : Type 0 where
+      (old new : Environment) (stop : Stop) : Type 0 where
     pub begun : Begun
-    pub mid : Around
+    pub mid : Environment
     pub does : Does steps old mid (Ok begun)
     pub fails : FailsToSettle T link step left count store begun mid new stop
     pub begins : Begins mid.heard fails.runs.made.exchanges fails.runs.workers fails.ended
@@ -88,7 +88,7 @@ module _ (T : Type 0) {L D : Type 0} (link : L → Link)
 
   -- what these steps up to the workers give, where the store is settled behind them
   abbrev pub SettlesBy : Beginning T L D → (watched : Bool) → Steps Begun → (store : List ℕ)
-      → FleetPlan → (old new : Around) → Result Record Stop → Type 0
+      → FleetPlan → (old new : Environment) → Result Record Stop → Type 0
   SettlesBy Begins watched steps store plan old new (Ok made) =
       LeavesRecord Begins true watched steps store plan old new made
   SettlesBy Begins watched steps store plan old new (Err stop) =
@@ -97,7 +97,7 @@ module _ (T : Type 0) {L D : Type 0} (link : L → Link)
 
   -- the same; where no worker was started this holds
   abbrev pub SettlesOr : (Idle : Type 0) → Beginning T L D → (watched : Bool) → Steps Begun
-      → (store : List ℕ) → FleetPlan → (old new : Around) → Result Record Stop → Type 0
+      → (store : List ℕ) → FleetPlan → (old new : Environment) → Result Record Stop → Type 0
   SettlesOr Idle Begins watched steps store plan old new (Ok made) =
       LeavesRecord Begins true watched steps store plan old new made
   SettlesOr Idle Begins watched steps store plan old new (Err stop) =

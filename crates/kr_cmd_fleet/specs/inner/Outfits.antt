@@ -7,7 +7,7 @@ use Rattle.kr_kms.specs.Outside.{Outside, same_seat}
 use Rattle.kr_provider.specs.AskedLinks.{AskedOnly}
 use Rattle.kr_provider.specs.Names.{names_of}
 use Rattle.kr_provider.specs.PluginOrder.{plugin_order}
-use Rattle.kr_cmd_steps.specs.Around.{Around, with_lent, with_world}
+use Rattle.kr_cmd_steps.specs.Environment.{Environment, with_lent, with_world}
 use Rattle.kr_cmd_steps.specs.Plugins.{borrow_links_of}
 use Rattle.kr_cmd_steps.specs.Steps.{Steps, borrow_dice, give}
 use Rattle.kr_cmd_fleet.specs.StartExchanges.{keys_at, keys_of}
@@ -24,7 +24,7 @@ ArePlugins programs = (rows : List ConfigEntry) × (names_in programs ≡ plugin
 
 module _ {L D : Type 0} (link : L → Link) (left : D → Option (List ℕ)) (count : D → ℕ) where
   -- the outfits of the seats from this one on stand as if they were at home
-  abbrev pub with_outfits : (seat : ℕ) → List (Outfit L D) → Around → Around
+  abbrev pub with_outfits : (seat : ℕ) → List (Outfit L D) → Environment → Environment
   with_outfits seat [] a = a
   with_outfits seat (outfit ∷ outfits) a = with_lent_links link seat outfit.links
       (with_lent_dice seat (left outfit.dice) (count outfit.dice)
@@ -91,7 +91,7 @@ module _ {L D : Type 0} (link : L → Link) (left : D → Option (List ℕ)) (co
   abbrev pub OpensLinks : (seat : ℕ) → List Program → (old new : Outside) → (links : List L)
       → Result (Unit {0}) Stop → Type 0
   OpensLinks seat programs old new links result = (dice : D) (front : List (Outfit L D))
-      (tapes : Tapes) (a : Around) → Does (borrow_links_of seat programs (give tt))
+      (tapes : Tapes) (a : Environment) → Does (borrow_links_of seat programs (give tt))
       (with_outfits link left count 0 front (with_lent_dice seat (left dice) (count dice)
       (with_world (with_tapes tapes old) a)))
       (with_outfits link left count 0 front
@@ -102,13 +102,13 @@ module _ {L D : Type 0} (link : L → Link) (left : D → Option (List ℕ)) (co
   abbrev pub Opens : (seat : ℕ) → List Program → (old new : Outside)
       → Result (Outfit L D) Stop → Type 0
   Opens seat programs old new (Ok outfit) = (front : List (Outfit L D)) (tapes : Tapes)
-      (a : Around) → Does (equipping_one seat programs)
+      (a : Environment) → Does (equipping_one seat programs)
       (with_outfits link left count 0 front (with_world (with_tapes tapes old) a))
       (with_outfits link left count 0 front
       (with_outfits link left count seat (outfit ∷ []) (with_world (with_tapes tapes new) a)))
       (Ok tt)
   Opens seat programs old new (Err stop) = (front : List (Outfit L D)) (tapes : Tapes)
-      (a : Around) → Does (equipping_one seat programs)
+      (a : Environment) → Does (equipping_one seat programs)
       (with_outfits link left count 0 front (with_world (with_tapes tapes old) a))
       (with_outfits link left count 0 front (with_world (with_tapes tapes new) a)) (Err stop)
 

@@ -11,7 +11,7 @@ use Rattle.kr_script.specs.declared.script.ScriptNo.{ScriptNo}
 use Rattle.kr_script.specs.declared.script.ScriptNo.TheVariants as no
 use Rattle.kr_workers.specs.declared.files.SettingsFile.{SettingsFile}
 use Rattle.kr_provider.specs.PluginOrder.{plugin_order}
-use Rattle.kr_cmd_steps.specs.Around.{Around, with_world}
+use Rattle.kr_cmd_steps.specs.Environment.{Environment, with_world}
 use Rattle.kr_cmd_fleet.specs.FleetFiles.{FleetPlan, IsFleetFile, MeansFleet, NamedRows, all_rows, files_in, all_files, named_rows, file_entries}
 use Rattle.kr_cmd_fleet.specs.declared.fleet_file.LoadedFleet.{LoadedFleet}
 use Rattle.kr_cmd_messages.specs.declared.refusal.Limit.TheVariants as limit
@@ -77,11 +77,11 @@ abbrev pub GoesThrough : (old_files new_files : List NamedRows) (more : List (Li
     (old new : Outside) → Result (Unit {0}) Stop → Type 0
 GoesThrough old_files new_files more old new (Ok done) = (new.links ≡ old.links)
     × Covers old_files new_files more
-    × ((a end : Around) (names : List (List ℕ)) (result : Result (List NamedRows) Stop)
+    × ((a end : Environment) (names : List (List ℕ)) (result : Result (List NamedRows) Stop)
     → Does (files_in new_files names) (with_world new a) end result
     → Does (files_in old_files (more ++ names)) (with_world old a) end result)
 GoesThrough old_files new_files more old new (Err stop) = (new.links ≡ old.links)
-    × ((a : Around) (names : List (List ℕ))
+    × ((a : Environment) (names : List (List ℕ))
     → Does (files_in old_files (more ++ names)) (with_world old a) (with_world new a) (Err stop))
 
 -- ---- all of it

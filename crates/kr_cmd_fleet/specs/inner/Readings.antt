@@ -24,7 +24,7 @@ use Rattle.kr_watch.specs.declared.item.Item.{Item}
 use Rattle.kr_cmd_fleet.specs.FirstItems.{item_with, reading_rows}
 use Rattle.kr_cmd_fleet.specs.declared.outfit.Outfit.{Outfit}
 use Rattle.kr_cmd_fleet.specs.inner.Beginnings.{with_first}
-use Rattle.kr_cmd_steps.specs.Around.{Around, with_exchanges}
+use Rattle.kr_cmd_steps.specs.Environment.{Environment, with_exchanges}
 use Rattle.kr_cmd_steps.specs.ValueSteps.{none_kept}
 use Rattle.kr_cmd_steps.specs.inner.Phases.{Does}
 use Rattle.kr_cmd_fleet.specs.declared.watch_start.RowReadNo.{RowReadNo}
@@ -116,7 +116,7 @@ Names names (Err why) = NamesALink names why
 pub record AreRead {L : Type 0} (link : L → Link) (p : Publication) (rows : List Row)
     (olds : List L) (result : Result (List Item × ℕ) RowReadNo) (news : List L)
     (exchanges : List Exchange) : Type 0 where
-  pub does : (left : Option (List ℕ)) (count : ℕ) (a : Around)
+  pub does : (left : Option (List ℕ)) (count : ℕ) (a : Environment)
       → (made : Result (List Item) Stop) → IsReadEnd link news result made
       → Does (reading_rows p rows [] none_kept) (with_first link olds left count a)
       (with_first link news left count (with_exchanges exchanges a)) made

@@ -6,7 +6,7 @@ use Rattle.kr_kms.specs.Outside.{Outside}
 use Rattle.kr_store.specs.Stores.{Kept}
 use Rattle.kr_watch.specs.declared.item.Item.{Item}
 use Rattle.kr_workers.specs.declared.worker.Worker.{Worker}
-use Rattle.kr_cmd_steps.specs.Around.{Around}
+use Rattle.kr_cmd_steps.specs.Environment.{Environment}
 use Rattle.kr_cmd_fleet.specs.Fleets.{Begun, Replicas, launching, starting}
 use Rattle.kr_cmd_fleet.specs.StartExchanges.{AsksFirst, BeganWith, OpenBy, WereAsked, links_in}
 use Rattle.kr_cmd_fleet.specs.declared.fleet_file.LoadedFleet.{LoadedFleet}
@@ -27,7 +27,7 @@ Outfits L D = List (Outfit L D)
 
 module _ {L D : Type 0} (link : L → Link) (left : D → Option (List ℕ)) (count : D → ℕ) where
   -- these outfits and the store's tape stand as if they were at home
-  abbrev pub with_crew : (name : List ℕ) → Kept → Outfits L D → Around → Around
+  abbrev pub with_crew : (name : List ℕ) → Kept → Outfits L D → Environment → Environment
   with_crew name store outfits a = with_outfits link left count 0 outfits
       (with_lent_tape name store.told store.count a)
 
@@ -35,7 +35,7 @@ module _ {L D : Type 0} (link : L → Link) (left : D → Option (List ℕ)) (co
   -- the live rows were read, by what the links of the first outfit answered: what the core's start
   -- does completes it
   pub record IsPublished (step : L → Exchange → L → Type 0) (watched : Bool) (plan : LoadedFleet)
-      (budgets : List ℕ) (name : List ℕ) (store : Kept) (first a : Around)
+      (budgets : List ℕ) (name : List ℕ) (store : Kept) (first a : Environment)
       (olds outfits : Outfits L D) (exchanges : List Exchange) (replicas : Replicas)
       (items : List Item) : Type 0 where
     pub are_named : AreNamed link (names_in plan.programs) olds

@@ -3,7 +3,7 @@ use Rattle.std.specs.Prelude.{◌≡◌, ℕ, false, List, [], All, length, map,
 use Rattle.kr_kms.specs.Calls.{Link}
 use Rattle.kr_kms.specs.Exchanges.{Exchange}
 use Rattle.kr_workload.specs.Streams.{StreamState, link_faults, left_in}
-use Rattle.kr_cmd_steps.specs.Around.{Around}
+use Rattle.kr_cmd_steps.specs.Environment.{Environment}
 use Rattle.kr_cmd_fleet.specs.FleetFiles.{FleetPlan}
 use Rattle.kr_cmd_fleet.specs.Fleets.{Begun}
 use Rattle.kr_cmd_gen.specs.GeneratedLoads.{with_sources, with_streams}
@@ -28,7 +28,7 @@ sources_in {L} outfits = map (λ (outfit : Outfit L StreamState). outfit.dice) o
 -- sources are left somehow
 abbrev pub SettlesLoad : (T : Type 0) → {L : Type 0} → (L → Link)
     → (L → Exchange → L → Type 0) → (seed : ℕ) → Steps Begun → (store : List ℕ) → FleetPlan
-    → (old new : Around) → Result Record Stop → Type 0
+    → (old new : Environment) → Result Record Stop → Type 0
 SettlesLoad T {L} link step seed steps store plan old new result =
     (sources : List StreamState) × SettlesBy T link step left_in link_faults
     (Anyhow T L StreamState) false steps store plan (with_streams seed old)

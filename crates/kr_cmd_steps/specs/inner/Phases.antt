@@ -14,10 +14,10 @@ use Rattle.kr_config.specs.Kept.{ConfigEntry, rows_of}
 use Rattle.kr_config.specs.declared.settings.Settings.{Settings}
 use Rattle.kr_config.specs.Meanings.{MeansConfig}
 use Rattle.kr_config.specs.declared.refusal.ConfigNo.{ConfigNo}
-use Rattle.kr_cmd_steps.specs.Around.{Around, Stays, IsHome, Ends, with_world}
+use Rattle.kr_cmd_steps.specs.Environment.{Environment, IsStateOf, IsHome, Ends, with_world}
 use Rattle.kr_cmd_steps.specs.Phases.{configuration, linking_programs, silently}
 use Rattle.kr_cmd_steps.specs.Configuration.{Entries, IsConfiguration}
-use Rattle.kr_cmd_steps.specs.Steps.{Steps, Left}
+use Rattle.kr_cmd_steps.specs.Steps.{Steps, StepState}
 use Rattle.kr_cmd_steps.specs.declared.programs.Program.{Program}
 use Rattle.kr_cmd_messages.specs.declared.refusal.Object.TheVariants.{Input, Files}
 use Rattle.kr_cmd_messages.specs.declared.refusal.Outcome.{Outcome}
@@ -29,10 +29,10 @@ use Rattle.kr_cmd_messages.specs.declared.refusal.Stop.TheVariants.{Refused, Fau
 -- ---- any phase
 
 -- wherever a command comes to these steps, they end so
-pub record Does {A : Type 0} (next : Steps A) (old new : Around)
+pub record Does {A : Type 0} (next : Steps A) (old new : Environment)
     (result : Result A Stop) : Type 0 where
   pub home : IsHome old new
-  pub ends : (left : Left) → Stays left old → Ends next left old new result
+  pub ends : (left : StepState) → IsStateOf left old → Ends next left old new result
 
 -- ---- the world
 
@@ -64,13 +64,14 @@ abbrev pub HasPrograms : (old new : Outside) → List ℕ → List (List ℕ × 
     → Result (Settings × List Program) Stop → Type 0
 HasPrograms old new name options (Ok (settings, programs)) =
     let rows = rows_of settings.entries.0 in
-    ((a : Around) → Does (configuration name) (with_world old a) (with_world new a) (Ok rows))
-    × ((a : Around) → Does (linking_programs options rows) a a (Ok programs))
+    ((a : Environment) → Does (configuration name) (with_world old a) (with_world new a) (Ok rows))
+    × ((a : Environment) → Does (linking_programs options rows) a a (Ok programs))
 HasPrograms old new name options (Err stop) =
-    ((a : Around) → Does (configuration name) (with_world old a) (with_world new a) (Err stop))
+    ((a : Environment) → Does (configuration name) (with_world old a) (with_world new a) (Err stop))
     ⊎ ((rows : List ConfigEntry)
-    × ((a : Around) → Does (configuration name) (with_world old a) (with_world new a) (Ok rows))
-    × ((a : Around) → Does (linking_programs options rows) a a (Err stop)))
+    × ((a : Environment) → Does (configuration name) (with_world old a) (with_world new a)
+    (Ok rows))
+    × ((a : Environment) → Does (linking_programs options rows) a a (Err stop)))
 
 -- the file of a name is read so
 abbrev pub IsFileRead : Outside → List ℕ → Entries → Type 0

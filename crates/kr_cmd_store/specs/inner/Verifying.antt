@@ -16,7 +16,7 @@ use Rattle.kr_cmd_messages.specs.declared.refusal.Object.TheVariants.{Plugin}
 use Rattle.kr_cmd_messages.specs.declared.refusal.Outcome.{Outcome}
 use Rattle.kr_cmd_messages.specs.declared.refusal.Stop.{Stop}
 use Rattle.kr_cmd_messages.specs.declared.refusal.Stop.TheVariants as stop
-use Rattle.kr_cmd_steps.specs.Around.{Around, with_exchanges}
+use Rattle.kr_cmd_steps.specs.Environment.{Environment, with_exchanges}
 use Rattle.kr_cmd_steps.specs.StoreSteps.{row_finding}
 use Rattle.kr_cmd_steps.specs.RowFindings.{findings_outcome}
 use Rattle.kr_cmd_steps.specs.declared.finding.Finding.{Finding}
@@ -69,7 +69,7 @@ IsUnreadStop link links NoMemory why = why ≡ stop.NoMemory
 -- what reading the row by a bench did, with what it kept before, by exchanges with its links
 module _ {L D : Type 0} (link : L → Link) (left : D → Option (List ℕ))
     (count : D → ℕ) (row : Row) (old new : BenchState L D) where
-  abbrev pub RowDoes : Around → List Exchange → Result (Finding × CacheState) Stop → Type 0
+  abbrev pub RowDoes : Environment → List Exchange → Result (Finding × CacheState) Stop → Type 0
   RowDoes a es result = IfSome old.published (λ p. Does (row_finding p row old.cache)
       (with_lent_links link 0 old.links
       (with_lent_dice 0 (left old.dice) (count old.dice) a))
@@ -78,8 +78,8 @@ module _ {L D : Type 0} (link : L → Link) (left : D → Option (List ℕ))
 
   -- what was found, with what it keeps then
   pub record IsRowRead (result : Result Finding Unread) (es : List Exchange) : Type 0 where
-    pub found : IfOk result (λ finding. (a : Around) → RowDoes a es (Ok (finding, new.cache)))
-    pub unread : IfErr result (λ why. (end : Stop) (a : Around)
+    pub found : IfOk result (λ finding. (a : Environment) → RowDoes a es (Ok (finding, new.cache)))
+    pub unread : IfErr result (λ why. (end : Stop) (a : Environment)
         → IsUnreadStop link new.links why end → RowDoes a es (Err end))
 
 -- ---- all of them

@@ -29,14 +29,14 @@ use Rattle.kr_kms.specs.declared.seeds.SeedRow.{SeedRow}
 abbrev pub row_value : (revision : ℕ) → Result Opened UnsealNo → Result Read CallNo
 row_value revision (Ok opened) =
     Ok (Value revision opened.plain opened.stale)
-row_value revision (Err (unsealing.Refused why)) = Err (refusal.Refused why)
+row_value revision (Err (unsealing.Refused why)) = Err (refusal.Value why)
 row_value revision (Err (unsealing.PluginFailed name)) = Err (refusal.PluginFailed name)
 row_value revision (Err unsealing.NoMemory) = Err refusal.NoMemory
 
 -- why nothing is sealed
 abbrev pub seal_refusal : SealNo → CallNo
-seal_refusal sealing.LooksEncrypted = refusal.Refused LooksEncrypted
-seal_refusal (sealing.TooLarge size) = refusal.Refused TooLarge
+seal_refusal sealing.LooksEncrypted = refusal.Value LooksEncrypted
+seal_refusal (sealing.TooLarge size) = refusal.Value TooLarge
 seal_refusal sealing.DiceFailed = refusal.DiceFailed
 seal_refusal sealing.NoMemory = refusal.NoMemory
 

@@ -132,7 +132,7 @@ pub record ServesOne (plugin : Plugin) (left_old left held_old held : Option (Li
   pub serves : ServesNext plugin left held_old held all new SourceRises SinkRises result
 
 -- so many lines were answered, and these bytes are pending
-pub record Goes (plugin : Plugin) (left_old left held_old held : Option (List ℕ))
+pub record HasServed (plugin : Plugin) (left_old left held_old held : Option (List ℕ))
     (pending : List ℕ) (count : ℕ) : Type 0 where
   pub lines : List (List ℕ)
   pub took : Consumes left_old left (served_text lines ++ pending)

@@ -10,7 +10,7 @@ use Rattle.kr_cmd_messages.specs.Receipts.{Receipt}
 use Rattle.kr_cmd_messages.specs.WatchAsked.{AsksWatch}
 use Rattle.kr_cmd_messages.specs.declared.refusal.Stop.{Stop}
 use Rattle.kr_cmd_messages.specs.declared.refusal.Stop.TheVariants.{NoMemory}
-use Rattle.kr_cmd_steps.specs.Around.{Around, IsUnheard, with_exchanges, with_world}
+use Rattle.kr_cmd_steps.specs.Environment.{Environment, IsUnheard, with_exchanges, with_world}
 use Rattle.kr_cmd_steps.specs.Ran.{StopsAtOnce}
 use Rattle.kr_cmd_fleet.specs.Fleets.{DidFleet}
 use Rattle.kr_cmd_gen.specs.GeneratedLoads.{DidLoad}
@@ -45,11 +45,11 @@ module _ (T : Type 0) {L D : Type 0} (link : L → Link)
     (step : L → Exchange → L → Type 0) (lent took : ℕ → L → Type 0)
     (left : D → Option (List ℕ)) (count : D → ℕ) where
   abbrev pub DidTeam : TeamWords → (old new : Outside) → Receipt → Result Ending Stop → Type 0
-  DidTeam (Fleet asked) old new output result = (exchanges : List Exchange) × ((a : Around)
+  DidTeam (Fleet asked) old new output result = (exchanges : List Exchange) × ((a : Environment)
       → DidFleet T link step lent took left count asked (with_world old a)
       (with_world new (with_exchanges exchanges a)) output result)
-  DidTeam (Load asked) old new output result = (a : Around) → IsUnheard a
+  DidTeam (Load asked) old new output result = (a : Environment) → IsUnheard a
       → DidLoad T link step asked (with_world old a) (with_world new a) output result
-  DidTeam (Watch asked) old new output result = (exchanges : List Exchange) × ((a : Around)
+  DidTeam (Watch asked) old new output result = (exchanges : List Exchange) × ((a : Environment)
       → DidWatch T link step lent took left count asked (with_world old a)
       (with_world new (with_exchanges exchanges a)) output result)

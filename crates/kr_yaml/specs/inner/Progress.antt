@@ -47,17 +47,20 @@ pub record IsGoing (us : List (ℕ × Token)) (nodes : Nodes) : Type 0 where
   pub once : shape.twice ≡ false
   pub runs : run (plain us) ([], None) ≡ Some (state_view nodes.nodes.items nodes.value)
 
-abbrev pub Stays : List (ℕ × Token) → Progress → Type 0
-Stays us (Going nodes) = IsGoing us nodes
-Stays us (Broken why) = IsFirst us why
+-- the same, or one of them was the first to break a rule
+abbrev pub HoldsTokens : List (ℕ × Token) → Progress → Type 0
+HoldsTokens us (Going nodes) = IsGoing us nodes
+HoldsTokens us (Broken why) = IsFirst us why
 
 -- the tokens of a line more
 abbrev pub Extends : Progress → ℕ → List Token → Progress → Type 0
-Extends old n ts new = (us : List (ℕ × Token)) → Stays us old → Stays (us ++ at_line n ts) new
+Extends old n ts new =
+    (us : List (ℕ × Token)) → HoldsTokens us old → HoldsTokens (us ++ at_line n ts) new
 
 -- how far the lines were read, unless one of them has no tokens
 abbrev pub ReadsLines : Result (List (ℕ × Token)) ℕ → Result Progress YamlNo → Type 0
-ReadsLines wanted (Ok progress) = (us : List (ℕ × Token)) × (wanted ≡ Ok us) × Stays us progress
+ReadsLines wanted (Ok progress) =
+    (us : List (ℕ × Token)) × (wanted ≡ Ok us) × HoldsTokens us progress
 ReadsLines wanted (Err (Outside line)) = wanted ≡ Err line
 ReadsLines wanted (Err (Indent line)) = ⊥
 ReadsLines wanted (Err (DuplicateKey line)) = ⊥

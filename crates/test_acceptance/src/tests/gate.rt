@@ -1,7 +1,7 @@
 //! A link that waits, in the midst of its unwrap, for another one's.
 ghost use Rattle.std.specs.Prelude.{◌≡◌, ◌≤◌, IsErrOf};
 ghost use Rattle.kr_base.specs.Faults.{Rose, counted};
-ghost use Rattle.kr_kms.specs.Exchanges.{KeepsLink, TellsAnswer, has_failed};
+ghost use Rattle.kr_kms.specs.Exchanges.{KeepsLink, TellsAnswer, plugin_failed};
 ghost use Rattle.test_acceptance.specs.Gates.{counting};
 
 use kr_base::{Bytes, FaultCount};
@@ -48,7 +48,7 @@ impl<'a, L: Kms + Drop> Gate<'a, L> {
 
 /// Counts a call that failed.
 fn count<T>(faults: &mut FaultCount, answer: &Result<T, KmsNo>)
-    ensures counted { faults.new ≡ counted (has_failed answer.now) faults.old }
+    ensures counted { faults.new ≡ counted (plugin_failed answer.now) faults.old }
     ensures later { faults.old ≤ faults.new }
     ensures failed { IsErrOf answer.now KmsNo.Failed → Rose faults.old faults.new }
 {

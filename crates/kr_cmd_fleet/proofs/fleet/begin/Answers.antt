@@ -6,7 +6,7 @@ use Rattle.kr_cmd_fleet.specs.FirstItems.{watching}
 use Rattle.kr_cmd_fleet.specs.inner.Plans.{named, plan_of}
 use Rattle.kr_cmd_fleet.specs.inner.FleetOutcomes.{ArePublished, published_in}
 use Rattle.kr_cmd_steps.specs.inner.Lent.{with_lent_tape}
-use Rattle.kr_cmd_steps.specs.Around.{Around, with_exchanges}
+use Rattle.kr_cmd_steps.specs.Environment.{Environment, with_exchanges}
 use Rattle.kr_kms.specs.Exchanges.{Exchange}
 use Rattle.kr_provider.specs.Publication.{Publication}
 use Rattle.kr_cmd_messages.specs.declared.refusal.Stop.{Stop}
@@ -25,7 +25,7 @@ use Rattle.kr_cmd_fleet.proofs.FleetRuns.{runs_so}
 use Rattle.kr_cmd_fleet.proofs.StartExchanges.{asks_then, takes_asks}
 use Rattle.kr_cmd_fleet.proofs.Plans.{plan_first, plan_replicas, plan_workers}
 use Rattle.kr_cmd_fleet.proofs.Publishings.{open_on, published_first}
-use Rattle.kr_cmd_steps.proofs.Goes.{goes_on, stops}
+use Rattle.kr_cmd_steps.proofs.RunTo.{goes_on, stops}
 use Rattle.kr_cmd_steps.proofs.Hearing.{around_more}
 use Rattle.kr_cmd_fleet.proofs.Outfits.{later_many, later_named, later_trans}
 use Rattle.kr_cmd_fleet.proofs.fleet.begin.Given.{Over}
@@ -35,15 +35,15 @@ use Rattle.kr_cmd_fleet.proofs.fleet.begin.Goals as goal
 -- ---- what the answers behind one place have in common
 
 module _ (g : Over) (c : After-publish_first-published g) where
-  abbrev Olds : Around → Around
+  abbrev Olds : Environment → Environment
   Olds a = with_outfits g.L.Kms.link g.D.Dice.left g.D.Dice.count 0 c.args.outfits.0 a
 
-  abbrev Mids : Around → Around
+  abbrev Mids : Environment → Environment
   Mids a = with_outfits g.L.Kms.link g.D.Dice.left g.D.Dice.count 0
       c.publish_first-published.result.1.0 a
 
   publishes : (result : Result (List (Option Publication) × ℕ) Stop)
-      → c.publish_first-published.result.0 ≡ result → (a : Around)
+      → c.publish_first-published.result.0 ≡ result → (a : Environment)
       → Does (publishing (named c.args.plan.now.files.0) [] c.args.plan.now.script.replicas.0)
       (Olds a) (Mids (with_exchanges c.publish_first-published.ensures.does.0 a))
       (published_in result)
@@ -79,14 +79,14 @@ module _ (g : Over) (c : After-read_first-read g) where
       c.publish_first-published.ensures.later c.read_first-read.ensures.later
 
   -- around the outfits, behind the reading
-  abbrev Read : (made : Result WatchStart Stop) → List (Option Publication) → (a end : Around)
+  abbrev Read : (made : Result WatchStart Stop) → List (Option Publication) → (a end : Environment)
       → Type 0
   Read made replicas a end = Does (watching c.args.watched c.args.store.rows replicas)
       (with_outfits g.L.Kms.link g.D.Dice.left g.D.Dice.count 0 mids
       (with_exchanges c.publish_first-published.ensures.does.0 a))
       (with_outfits g.L.Kms.link g.D.Dice.left g.D.Dice.count 0 outs end) (read_in made)
 
-  reads : (result : Result WatchStart Stop) → c.read_first-read.result.0 ≡ result → (a : Around)
+  reads : (result : Result WatchStart Stop) → c.read_first-read.result.0 ≡ result → (a : Environment)
       → Read result c.in-Ok.replicas.0 a (with_exchanges all a)
   reads result is a =
       let es = c.publish_first-published.ensures.does.0 in

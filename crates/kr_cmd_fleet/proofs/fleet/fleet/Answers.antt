@@ -1,7 +1,7 @@
 -- `fleet`: the plan, what the workers left, and what was written.
 use Rattle.std.proofs.Common.{List, [], refl}
 use Rattle.kr_kms.specs.Exchanges.{Exchange}
-use Rattle.kr_cmd_steps.specs.Around.{Around, with_exchanges, with_world}
+use Rattle.kr_cmd_steps.specs.Environment.{Environment, with_exchanges, with_world}
 use Rattle.kr_cmd_steps.proofs.Hearing.{heard_none, none_heard}
 use Rattle.kr_cmd_fleet.specs.StartExchanges.{WereAsked}
 use Rattle.kr_cmd_fleet.specs.inner.Plans.{plan_of}
@@ -12,7 +12,7 @@ use Rattle.kr_cmd_fleet.proofs.fleet.fleet.Given.{Over}
 use Rattle.kr_cmd_fleet.proofs.fleet.fleet.Goals.{After-run_fleet_over_store}
 use Rattle.kr_cmd_fleet.proofs.fleet.fleet.Goals as goal
 
-planned : (g : Over) (c : After-run_fleet_over_store g) (a : Around)
+planned : (g : Over) (c : After-run_fleet_over_store g) (a : Environment)
     → IsPlanned c.args.words.now (plan_of c.in-Ok.plan)
     (with_world (g.W.World.told c.args.world.now) a)
     (with_world (g.W.World.told c.load_plan.new.world) a) c.as_str.result.now c.as_str-2.result.now

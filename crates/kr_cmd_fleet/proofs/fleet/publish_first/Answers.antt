@@ -6,7 +6,7 @@ use Rattle.kr_cmd_fleet.specs.declared.outfit.Outfit.{Outfit}
 use Rattle.kr_cmd_fleet.specs.inner.Beginnings.{with_first}
 use Rattle.kr_cmd_fleet.specs.inner.Plans.{named}
 use Rattle.kr_cmd_fleet.specs.inner.FleetOutcomes.{published_in}
-use Rattle.kr_cmd_steps.specs.Around.{with_exchanges}
+use Rattle.kr_cmd_steps.specs.Environment.{with_exchanges}
 use Rattle.kr_cmd_fleet.specs.StartExchanges.{AsksFirst}
 use Rattle.kr_cmd_fleet.specs.inner.Outfits.{AreLater, links_of, with_outfits}
 use Rattle.kr_cmd_steps.specs.inner.Phases.{Does}

@@ -11,7 +11,7 @@ use Rattle.kr_provider.specs.PluginOrder.{plugin_order}
 use Rattle.kr_provider.specs.Publication.{Publication}
 use Rattle.kr_history.specs.Honesty.{SeedsOpen}
 use Rattle.kr_provider.proofs.AskedLists.{asked_none}
-use Rattle.kr_cmd_steps.specs.Around.{Around, with_exchanges}
+use Rattle.kr_cmd_steps.specs.Environment.{Environment, with_exchanges}
 use Rattle.kr_cmd_steps.specs.Plugins.{make_seeds}
 use Rattle.kr_cmd_steps.specs.inner.Phases.{Does}
 use Rattle.kr_cmd_messages.specs.declared.refusal.Stop.{Stop}
@@ -75,9 +75,9 @@ asked g c has = asked_wider g.L.Kms.link (plugins_in (rows_of c.in-Ok.settings.e
 
 -- nothing was asked
 silent : (g : Over) (c : Start g) (result : Result (Option Publication) Stop)
-    → ((a : Around) → PublishesNext (named c.args.files.now) c.args.replica.now a a result)
+    → ((a : Environment) → PublishesNext (named c.args.files.now) c.args.replica.now a a result)
     → IfOk result (λ published. OpenBy [] (published ∷ []))
-    → Talk (Among g.L.Kms.step) c.args.links.now c.args.links.now (λ es. ((a : Around)
+    → Talk (Among g.L.Kms.step) c.args.links.now c.args.links.now (λ es. ((a : Environment)
     → PublishesNext (named c.args.files.now) c.args.replica.now
     (with_first g.L.Kms.link c.args.links.now (g.D.Dice.left c.args.dice.now)
     (g.D.Dice.count c.args.dice.now) a)
@@ -90,26 +90,26 @@ silent g c result next so = none_next g.L.Kms.step (named c.args.files.now) c.ar
 
 -- the seeds were made, or not: what the replica's publication is by the same exchanges
 module _ (g : Over) (c : After-publish_settings g) where
-  abbrev Old : Around → Around
+  abbrev Old : Environment → Environment
   Old a = with_first g.L.Kms.link c.args.links.now (g.D.Dice.left c.args.dice.now)
       (g.D.Dice.count c.args.dice.now) a
 
-  abbrev New : Around → Around
+  abbrev New : Environment → Environment
   New a = with_first g.L.Kms.link c.publish_settings.new.links
       (g.D.Dice.left c.publish_settings.new.dice) (g.D.Dice.count c.publish_settings.new.dice) a
 
-  abbrev Makes : Result (List SeedRow) Stop → (old new : Around) → Type 0
+  abbrev Makes : Result (List SeedRow) Stop → (old new : Environment) → Type 0
   Makes seeds old new = Does (make_seeds (plugin_order (rows_of c.in-Ok.settings.entries.0))) old
       new seeds
 
   said : (seeds : Result (List SeedRow) Stop) (result : Result (Option Publication) Stop)
       (talk : Talk (Among g.L.Kms.step) c.args.links.now c.publish_settings.new.links
-      (λ es. (a : Around) → Makes seeds (Old a) (New (with_exchanges es a))))
-      → ((old new : Around) → Makes seeds old new
+      (λ es. (a : Environment) → Makes seeds (Old a) (New (with_exchanges es a))))
+      → ((old new : Environment) → Makes seeds old new
       → PublishesNext (named c.args.files.now) c.args.replica.now old new result)
       → IfOk result (λ published. OpenBy talk.steps (published ∷ []))
       → Talk (Among g.L.Kms.step) c.args.links.now c.publish_settings.new.links (λ es.
-      ((a : Around) → PublishesNext (named c.args.files.now) c.args.replica.now (Old a)
+      ((a : Environment) → PublishesNext (named c.args.files.now) c.args.replica.now (Old a)
       (New (with_exchanges es a)) result)
       × IfOk result (λ published. OpenBy es (published ∷ [])))
   said seeds result talk next so = record {

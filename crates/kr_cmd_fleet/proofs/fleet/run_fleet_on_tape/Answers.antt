@@ -3,7 +3,7 @@ use Rattle.std.proofs.Common.{◌≡◌, ◌+◌, ◌<◌, Err, sym, ap, subst}
 use Rattle.std.specs.Prelude.{sum}
 use Rattle.kr_base.specs.Limits.{journal_limit}
 use Rattle.kr_workers.specs.Budgets.{all_reloads, script_budgets, put_lines}
-use Rattle.kr_cmd_steps.specs.Around.{with_exchanges, with_world}
+use Rattle.kr_cmd_steps.specs.Environment.{with_exchanges, with_world}
 use Rattle.kr_cmd_steps.specs.Phases.{stored_on}
 use Rattle.kr_cmd_fleet.specs.Fleets.{beginning, budgeting, equipping_all, parts_of}
 use Rattle.kr_cmd_steps.specs.Steps.{and_then, hearing}

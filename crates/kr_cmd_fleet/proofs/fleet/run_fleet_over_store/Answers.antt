@@ -4,7 +4,7 @@ use Rattle.std.specs.Prelude.{◌<◌}
 use Rattle.kr_kms.specs.declared.world.Access.TheVariants.{ToMake}
 use Rattle.kr_cmd_steps.specs.Phases.{stored_on}
 use Rattle.kr_cmd_fleet.specs.Fleets.{beginning}
-use Rattle.kr_cmd_steps.specs.Around.{with_exchanges, with_world}
+use Rattle.kr_cmd_steps.specs.Environment.{with_exchanges, with_world}
 use Rattle.kr_cmd_steps.specs.Steps.{and_then, hearing}
 use Rattle.kr_cmd_fleet.specs.inner.Workings.{BeginsLent}
 use Rattle.kr_cmd_fleet.specs.inner.Plans.{plan_of}

@@ -2,7 +2,7 @@
 use Rattle.std.proofs.Common.{◌≡◌, ◌∙◌, ℕ, List, [], Result, Err, ap, arith, length, refl, subst, sym}
 use Rattle.std.proofs.lemmas.List.{length-map}
 use Rattle.kr_script.specs.Fleets.{worker_of}
-use Rattle.kr_cmd_steps.specs.Around.{Around, with_exchanges, with_world}
+use Rattle.kr_cmd_steps.specs.Environment.{Environment, with_exchanges, with_world}
 use Rattle.kr_cmd_steps.specs.Steps.{Steps, hearing}
 use Rattle.kr_cmd_messages.specs.declared.refusal.Stop.{Stop}
 use Rattle.kr_cmd_fleet.specs.FleetFiles.{all_rows}
@@ -95,13 +95,13 @@ module _ (g : Over) (c : After-open_outfits-opened g) where
       c.args.budgets.now.entries.items
 
   abbrev Runs : Beginning g.row.W-Tap.Denot g.row.W-Link.Denot g.row.W-Rand.Denot → Steps Begun
-      → (name : List ℕ) → (old new : Around) → Result Record Stop → Type 0
+      → (name : List ℕ) → (old new : Environment) → Result Record Stop → Type 0
   Runs Begins steps name old new made = RunsBy g.row.W-Tap.Denot g.W.Link.Kms.link
       g.W.Link.Kms.step g.W.Rand.Dice.left g.W.Rand.Dice.count Begins c.args.watched steps name
       (plan_of c.args.plan.now) old new made
 
   by_plan : (Begins : Beginning g.row.W-Tap.Denot g.row.W-Link.Denot g.row.W-Rand.Denot)
-      (name : List ℕ) (old new : Around) (made : Result Record Stop)
+      (name : List ℕ) (old new : Environment) (made : Result Record Stop)
       → Runs Begins (equipping c.as_slice-2.result.now 0 (length c.as_slice.result.now) next)
       name old new made
       → Runs Begins (equipping_all c.args.watched (plan_of c.args.plan.now)
@@ -188,7 +188,7 @@ returns-in-Err-clause-made g c =
             g.W.World.took asked.begun asked.back in
             let before = with_lent_tape name store.told store.count
             (with_world (g.W.World.told c.args.world.now) a) in
-            let after : Around → Around = λ b. with_lent_tape name store.told store.count
+            let after : Environment → Environment = λ b. with_lent_tape name store.told store.count
             (with_world new b) in
             let stop = c.in-Err.stop in
             subst (λ b. Runs g here Begins (equipping_all c.args.watched plan (stored_of store)

@@ -5,13 +5,13 @@ use Rattle.kr_script.specs.Fleets.{Fleet, fleet_of}
 use Rattle.kr_cmd_fleet.specs.FleetFiles.{FleetPlan, NamedRows, all_rows, files_in, fleet_in, all_files, file_programs, planning}
 use Rattle.kr_cmd_steps.specs.Steps.{Steps, and_then, give}
 use Rattle.kr_cmd_steps.specs.declared.programs.Program.{Program}
-use Rattle.kr_cmd_steps.specs.Around.{Around, with_world}
+use Rattle.kr_cmd_steps.specs.Environment.{Environment, with_world}
 use Rattle.kr_cmd_messages.specs.declared.refusal.Stop.{Stop}
 use Rattle.kr_cmd_fleet.specs.inner.Plans.{GoesThrough, named}
 use Rattle.kr_cmd_steps.specs.inner.ProgramNames.{names_in}
 use Rattle.kr_cmd_steps.specs.inner.Phases.{Does}
 use Rattle.kr_cmd_fleet.proofs.FleetLoads.{all_read, all_through, not_through, through_from}
-use Rattle.kr_cmd_steps.proofs.Goes.{given, goes_on, stops}
+use Rattle.kr_cmd_steps.proofs.RunTo.{given, goes_on, stops}
 use Rattle.kr_cmd_fleet.proofs.fleet_file.load_plan.Given.{Over}
 use Rattle.kr_cmd_fleet.proofs.fleet_file.load_plan.Goals.{In-Ok-load_files}
 use Rattle.kr_cmd_fleet.proofs.fleet_file.load_plan.Goals as goal
@@ -60,7 +60,7 @@ module _ (g : Over) (c : In-Ok-load_files g) where
       c.new-files.ensures c.in-Ok-load_files.ensures
 
   -- the programs end it
-  by_programs : (a : Around) (result : Result FleetPlan Stop)
+  by_programs : (a : Environment) (result : Result FleetPlan Stop)
       → Does (with_files c.args.options.now fleet files)
       (with_world (g.W.World.told c.load_files.new.world) a)
       (with_world (g.W.World.told c.load_files.new.world) a) result

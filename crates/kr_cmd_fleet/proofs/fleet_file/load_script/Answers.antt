@@ -2,7 +2,7 @@ use Rattle.std.proofs.Common.{subst}
 use Rattle.kr_kms.specs.declared.world.WorldCall.TheVariants.{File}
 use Rattle.kr_cmd_fleet.specs.inner.Plans.{ReadsBytes}
 use Rattle.kr_cmd_fleet.proofs.FleetLoads.{script_read}
-use Rattle.kr_cmd_steps.proofs.Goes.{asked_for}
+use Rattle.kr_cmd_steps.proofs.RunTo.{asked_for}
 use Rattle.kr_cmd_fleet.proofs.fleet_file.load_script.Goals as goal
 
 pub returns-clause-asked : goal.returns-clause-asked

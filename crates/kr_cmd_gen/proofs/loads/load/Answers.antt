@@ -1,6 +1,6 @@
 -- `load`: the plan, what the workers left, and what was written.
 use Rattle.std.proofs.Common.{refl}
-use Rattle.kr_cmd_steps.specs.Around.{with_world}
+use Rattle.kr_cmd_steps.specs.Environment.{with_world}
 use Rattle.kr_cmd_gen.proofs.LoadRuns.{load_ran, load_stopped, unbegun}
 use Rattle.kr_cmd_gen.proofs.loads.load.Goals as goal
 

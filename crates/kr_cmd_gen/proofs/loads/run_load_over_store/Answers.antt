@@ -1,6 +1,6 @@
 -- `run_load_over_store`: the workers' sources, and the tape of the store, which comes back.
 use Rattle.std.proofs.Common.{Err, subst}
-use Rattle.kr_cmd_steps.specs.Around.{with_world}
+use Rattle.kr_cmd_steps.specs.Environment.{with_world}
 use Rattle.kr_cmd_steps.specs.Phases.{stored_on}
 use Rattle.kr_cmd_gen.specs.GeneratedLoads.{load_beginning, load_over}
 use Rattle.kr_cmd_steps.specs.Steps.{and_then}

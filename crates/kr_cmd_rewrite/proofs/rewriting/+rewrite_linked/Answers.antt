@@ -6,7 +6,7 @@ use Rattle.kr_provider.specs.PluginOrder.{plugin_order}
 use Rattle.kr_store.specs.Stores.{Kept}
 use Rattle.kr_base.proofs.Walks.{talk_so}
 use Rattle.kr_provider.specs.AskedLinks.{Among}
-use Rattle.kr_cmd_steps.specs.Around.{with_exchanges, with_world}
+use Rattle.kr_cmd_steps.specs.Environment.{with_exchanges, with_world}
 use Rattle.kr_cmd_steps.proofs.HeardLinks.{heard_around, heard_by, heard_idle, heard_nothing, heard_so, loan_handed}
 use Rattle.kr_cmd_steps.proofs.Hearing.{none_heard}
 use Rattle.kr_cmd_steps.specs.RewriteSteps.{driving, nothing_done, rewriting_by, starting}

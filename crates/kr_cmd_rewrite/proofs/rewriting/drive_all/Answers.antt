@@ -17,7 +17,7 @@ use Rattle.kr_provider.specs.Publication.{Publication}
 use Rattle.kr_rewrite.specs.declared.outcome.Report.{Report}
 use Rattle.kr_store.specs.Stores.{IsListing}
 use Rattle.kr_cmd_messages.specs.declared.refusal.Ended.{Ended}
-use Rattle.kr_cmd_steps.specs.Around.{Around, with_exchanges}
+use Rattle.kr_cmd_steps.specs.Environment.{Environment, with_exchanges}
 use Rattle.kr_cmd_steps.specs.RewriteSteps.{nothing_done, driving}
 use Rattle.kr_cmd_steps.specs.inner.Phases.{Does}
 use Rattle.kr_cmd_steps.specs.inner.Reporting.{saying}
@@ -99,7 +99,7 @@ module _ (g : Over) (c : After-close-links g) (made : Result Report (Report × C
   told_so : (told : Ended) → IsToldBy g.L.Kms.link c.args.bench.links c.close-links.result.0
       c.close-store.result.0 (g.D.Dice.count c.close-links.result.1) made told
       → Talk (Among g.L.Kms.step) c.args.bench.links c.close-links.result.0 (λ es. (name : Name)
-      (a : Around) (live : LiveRows) (store : Told) (p : Publication)
+      (a : Environment) (live : LiveRows) (store : Told) (p : Publication)
       → IsListing c.args.core.opening.rows live → c.args.core.opening.replicas ≡ Some p ∷ []
       → Does (driving name p live c.args.bench.cache (nothing_done (opened_store c.args.core)))
       (All_lent g.L.Kms.link c.args.bench.links (g.D.Dice.left c.args.bench.dice)

@@ -5,7 +5,7 @@ use Rattle.kr_config.specs.Kept.{ConfigEntry, rows_of}
 use Rattle.kr_config.specs.declared.settings.Settings.{Settings}
 use Rattle.kr_kms.specs.Outside.{Outside}
 use Rattle.kr_provider.specs.PluginOrder.{plugin_order}
-use Rattle.kr_cmd_steps.specs.Around.{Around, with_exchanges, with_world}
+use Rattle.kr_cmd_steps.specs.Environment.{Environment, with_exchanges, with_world}
 use Rattle.kr_cmd_steps.specs.Heard.{Heard}
 use Rattle.kr_cmd_steps.proofs.HeardLinks.{heard_nothing, heard_so, heard_within}
 use Rattle.kr_cmd_steps.proofs.Hearing.{none_heard}
@@ -26,7 +26,7 @@ use Rattle.kr_cmd_steps.specs.inner.Reporting.{DoesAll, saying}
 use Rattle.kr_cmd_steps.specs.inner.Tapes.{ReturnsSettled}
 use Rattle.kr_cmd_rewrite.proofs.Closing.{closed, ended_of}
 use Rattle.kr_cmd_steps.proofs.Configured.{configured, unconfigured}
-use Rattle.kr_cmd_steps.proofs.Goes.{by_bytes}
+use Rattle.kr_cmd_steps.proofs.RunTo.{by_bytes}
 use Rattle.kr_cmd_steps.proofs.NamedPrograms.{names_in}
 use Rattle.kr_cmd_rewrite.proofs.Said.{saying_tape, stopped_all}
 use Rattle.kr_cmd_steps.proofs.Settling.{settled_links}
@@ -44,8 +44,8 @@ passed words rows programs = on_tape rows programs words.store
 -- from the tape on
 whole_by : (words : Rewriting) (settings : Settings) (programs : List Program)
     (old linked : Outside) {name : List ℕ}
-    → HasPrograms old linked words.config words.options (Ok (settings, programs)) → (a : Around)
-    → name ≡ words.store → (end : Around) (made : Result Outcome Stop)
+    → HasPrograms old linked words.config words.options (Ok (settings, programs)) → (a : Environment)
+    → name ≡ words.store → (end : Environment) (made : Result Outcome Stop)
     → Does (on_tape (rows_of settings.entries.0) programs name) (with_world linked a) end made
     → Does (steps (Rewrite words)) (with_world old a) end made
 whole_by words settings programs old linked has a is end made d =
@@ -102,7 +102,7 @@ settled_so : (g : Over) (c : After-settle_tape g) (settled : Result Ended Stop) 
     (g.W.Tap.Tape.count c.rewrite_on_tape-ended.result.1) c.to_settle.result settled
     → Heard g.W.Link.Kms.link g.W.World.lent g.W.World.took g.W.Link.Kms.step 0
     (g.W.World.told c.args.world.now) (g.W.World.told c.settle_tape.new.world) [] []
-    (λ es. (a : Around) → a.said ≡ [] → DoesAll (Rewrite c.args.words.now)
+    (λ es. (a : Environment) → a.said ≡ [] → DoesAll (Rewrite c.args.words.now)
     (with_world (g.W.World.told c.args.world.now) a)
     (saying ended.said (with_world (g.W.World.told c.settle_tape.new.world)
     (with_exchanges es a))) ended.made)

@@ -14,7 +14,7 @@ use Rattle.kr_rollout.specs.Cores.{CoreState}
 use Rattle.kr_store.specs.Stores.{IsListing}
 use Rattle.kr_cmd_messages.specs.declared.refusal.Stop.TheVariants.{NoMemory}
 use Rattle.kr_opening.specs.Starts.{MayStart, IsNoStart}
-use Rattle.kr_cmd_steps.specs.Around.{with_exchanges}
+use Rattle.kr_cmd_steps.specs.Environment.{with_exchanges}
 use Rattle.kr_cmd_steps.specs.inner.Lent.{with_lent_tape}
 use Rattle.kr_cmd_steps.specs.inner.Reporting.{saying}
 use Rattle.kr_cmd_steps.proofs.Hearing.{around_more, none_heard}

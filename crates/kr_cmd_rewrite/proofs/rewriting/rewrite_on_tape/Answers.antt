@@ -3,7 +3,7 @@ use Rattle.std.proofs.Common.{◌≡◌, ℕ, ◌++◌, ◌<◌, List, [], Resul
 use Rattle.kr_config.specs.Kept.{rows_of}
 use Rattle.kr_provider.specs.Names.{names_of}
 use Rattle.kr_provider.specs.PluginOrder.{plugin_order}
-use Rattle.kr_cmd_steps.specs.Around.{Around, with_exchanges, with_world}
+use Rattle.kr_cmd_steps.specs.Environment.{Environment, with_exchanges, with_world}
 use Rattle.kr_cmd_steps.proofs.HeardLinks.{heard_alone, heard_nothing, heard_so, heard_within}
 use Rattle.kr_cmd_steps.proofs.Hearing.{none_heard}
 use Rattle.kr_cmd_steps.specs.RewriteSteps.{rewriting_by, rewriting_on}
@@ -21,7 +21,7 @@ use Rattle.kr_cmd_steps.specs.inner.Phases.{Does}
 use Rattle.kr_cmd_steps.specs.inner.Reporting.{saying}
 use Rattle.kr_cmd_steps.specs.inner.Tapes.{stored_of}
 use Rattle.kr_cmd_steps.proofs.Apart.{files_apart, objects_apart, loan_apart, return_apart}
-use Rattle.kr_cmd_steps.proofs.Goes.{goes_on, stops, not_opened, lends_to}
+use Rattle.kr_cmd_steps.proofs.RunTo.{goes_on, stops, not_opened, lends_to}
 use Rattle.kr_cmd_steps.proofs.Linked.{none_named, without_links}
 use Rattle.kr_cmd_steps.proofs.Loading.{as_closed}
 use Rattle.kr_cmd_steps.proofs.NamedPrograms.{names_in}
@@ -32,7 +32,7 @@ use Rattle.kr_cmd_rewrite.proofs.rewriting.rewrite_on_tape.Goals.{In-Ok}
 use Rattle.kr_cmd_rewrite.proofs.rewriting.rewrite_on_tape.Goals as goal
 
 -- the store is loaded, and what follows goes on from it
-loaded : (g : Over) (c : In-Ok g) (name : List ℕ) (a : Around) {end : Around}
+loaded : (g : Over) (c : In-Ok g) (name : List ℕ) (a : Environment) {end : Environment}
     {made : Result Outcome Stop}
     → Does (Finding name (rows_of c.args.settings.entries.0) c.args.programs.now
     (stored_of c.in-Ok.store)) (with_lent_tape name c.in-Ok.store.told c.in-Ok.store.count

@@ -1,4 +1,4 @@
-use Rattle.kr_cmd_steps.proofs.Goes.{configures}
+use Rattle.kr_cmd_steps.proofs.RunTo.{configures}
 use Rattle.kr_cmd_steps.proofs.phases.configure.Goals as goal
 
 pub returns-clause-does : goal.returns-clause-does

@@ -1,5 +1,5 @@
 use Rattle.kr_kms.specs.declared.world.WorldCall.TheVariants.{File}
-use Rattle.kr_cmd_steps.proofs.Goes.{asked_for}
+use Rattle.kr_cmd_steps.proofs.RunTo.{asked_for}
 use Rattle.kr_cmd_steps.proofs.phases.load_settings.Goals as goal
 
 pub returns-clause-asked : goal.returns-clause-asked

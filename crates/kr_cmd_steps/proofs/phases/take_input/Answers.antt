@@ -2,7 +2,7 @@ use Rattle.std.proofs.Common.{◌≤◌, length, sym, subst}
 use Rattle.std.specs.Prelude.{IfOk}
 use Rattle.kr_cmd_steps.specs.Phases.{input_limit}
 use Rattle.kr_cmd_messages.specs.declared.command.Direction.TheVariants.{Encrypt, Decrypt}
-use Rattle.kr_cmd_steps.proofs.Goes.{takes_in}
+use Rattle.kr_cmd_steps.proofs.RunTo.{takes_in}
 use Rattle.kr_cmd_steps.proofs.phases.take_input.Goals as goal
 
 pub returns-in-Encrypt-clause-does : goal.returns-in-Encrypt-clause-does

@@ -2,7 +2,7 @@
 use Rattle.std.proofs.Common.{inl, inr}
 use Rattle.kr_config.specs.Kept.{rows_of}
 use Rattle.kr_cmd_steps.specs.Phases.{configuration}
-use Rattle.kr_cmd_steps.proofs.Goes.{by_bytes}
+use Rattle.kr_cmd_steps.proofs.RunTo.{by_bytes}
 use Rattle.kr_cmd_steps.proofs.programs.linked_settings.Goals as goal
 
 pub returns-in-Err-clause-does : goal.returns-in-Err-clause-does

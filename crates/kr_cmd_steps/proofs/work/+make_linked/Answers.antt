@@ -5,7 +5,7 @@ use Rattle.kr_config.specs.Kept.{rows_of}
 use Rattle.kr_provider.specs.AskedLinks.{Among}
 use Rattle.kr_provider.specs.Names.{names_of}
 use Rattle.kr_provider.specs.PluginOrder.{plugin_order}
-use Rattle.kr_cmd_steps.specs.Around.{with_exchanges, with_world}
+use Rattle.kr_cmd_steps.specs.Environment.{with_exchanges, with_world}
 use Rattle.kr_cmd_steps.specs.ValueSteps.{working, working_by}
 use Rattle.kr_cmd_steps.specs.Plugins.{make_seeds}
 use Rattle.kr_cmd_steps.specs.Steps.{and_then}

@@ -3,9 +3,9 @@ use Rattle.kr_config.specs.Kept.{rows_of}
 use Rattle.kr_provider.specs.Names.{names_of}
 use Rattle.kr_provider.specs.PluginOrder.{plugin_order}
 use Rattle.kr_cmd_steps.proofs.Apart.{files_apart, objects_apart, loan_apart, return_apart}
-use Rattle.kr_cmd_steps.specs.Around.{with_exchanges, with_world}
+use Rattle.kr_cmd_steps.specs.Environment.{with_exchanges, with_world}
 use Rattle.kr_cmd_steps.specs.inner.Lent.{with_tapes}
-use Rattle.kr_cmd_steps.proofs.Goes.{not_opened, lends_to}
+use Rattle.kr_cmd_steps.proofs.RunTo.{not_opened, lends_to}
 use Rattle.kr_cmd_steps.proofs.HeardLinks.{heard_alone, heard_nothing, heard_so, heard_within}
 use Rattle.kr_cmd_steps.proofs.Hearing.{none_heard}
 use Rattle.kr_cmd_steps.proofs.Links.{LinksOf}

@@ -8,7 +8,7 @@ use Rattle.kr_config.specs.declared.settings.Settings.{Settings}
 use Rattle.kr_provider.specs.AskedLinks.{Among}
 use Rattle.kr_provider.specs.Names.{AreDistinct, HasLinks, names_of}
 use Rattle.kr_provider.proofs.AskedLists.{links_stay, names_stay}
-use Rattle.kr_cmd_steps.specs.Around.{with_exchanges}
+use Rattle.kr_cmd_steps.specs.Environment.{with_exchanges}
 use Rattle.kr_cmd_steps.proofs.Frames.{Seen}
 use Rattle.kr_cmd_steps.proofs.Hearing.{both_heard, none_heard}
 use Rattle.kr_cmd_steps.proofs.Linked.{all_linked}

@@ -2,7 +2,7 @@ use Rattle.std.proofs.Common.{◌<◌, ◌∙◌, sym, subst}
 use Rattle.kr_kms.specs.declared.world.Access.TheVariants.{ToRead}
 use Rattle.kr_cmd_steps.specs.Phases.{tape_for}
 use Rattle.kr_cmd_steps.specs.StoreSteps.{judging_on}
-use Rattle.kr_cmd_steps.proofs.Goes.{by_bytes}
+use Rattle.kr_cmd_steps.proofs.RunTo.{by_bytes}
 use Rattle.kr_cmd_steps.proofs.Tapes.{not_lent, lends_tape, is_out}
 use Rattle.kr_cmd_store.proofs.judge.judge.Goals as goal
 

@@ -1,13 +1,13 @@
 use Rattle.std.specs.Prelude.{Some}
 use Rattle.std.specs.Option.{option_map}
 use Rattle.kr_kms.specs.Outside.{same_name}
-use Rattle.kr_cmd_steps.specs.Around.{with_world, with_lent}
+use Rattle.kr_cmd_steps.specs.Environment.{with_world, with_lent}
 use Rattle.kr_cmd_steps.specs.Phases.{stored_on}
 use Rattle.kr_cmd_steps.specs.StoreSteps.{judging_by}
 use Rattle.kr_cmd_steps.specs.inner.Lent.{with_lent_tape}
 use Rattle.kr_cmd_steps.specs.inner.Tapes.{stored_of}
 use Rattle.kr_cmd_messages.specs.declared.refusal.Object.TheVariants.{Store}
-use Rattle.kr_cmd_steps.proofs.Goes.{goes_on, stops}
+use Rattle.kr_cmd_steps.proofs.RunTo.{goes_on, stops}
 use Rattle.kr_cmd_steps.proofs.Loading.{as_closed}
 use Rattle.kr_cmd_steps.proofs.Tapes.{behind_tape}
 use Rattle.kr_cmd_store.proofs.judge.judge_on_tape.Goals as goal

@@ -2,13 +2,13 @@
 use Rattle.std.proofs.Common.{[], Ok, Err, subst, arith}
 use Rattle.kr_config.specs.Kept.{rows_of}
 use Rattle.kr_opening.specs.Replicas.{rows_in}
-use Rattle.kr_cmd_steps.specs.Around.{with_world}
+use Rattle.kr_cmd_steps.specs.Environment.{with_world}
 use Rattle.kr_cmd_messages.specs.Command.{replica_names, reload_in, reload_number, reload_file}
 use Rattle.kr_cmd_steps.specs.Phases.{configuration}
 use Rattle.kr_cmd_steps.specs.StoreSteps.{configurations, judging_at}
 use Rattle.kr_cmd_steps.specs.inner.Lent.{with_tapes}
 use Rattle.kr_cmd_steps.specs.inner.Phases.{Does}
-use Rattle.kr_cmd_steps.proofs.Goes.{goes_on, stops, by_bytes}
+use Rattle.kr_cmd_steps.proofs.RunTo.{goes_on, stops, by_bytes}
 use Rattle.kr_cmd_steps.proofs.OneVerdict.{read_then}
 use Rattle.kr_cmd_store.proofs.Loads.{configures_behind}
 use Rattle.kr_cmd_store.proofs.ReplicaLists.{first_in}

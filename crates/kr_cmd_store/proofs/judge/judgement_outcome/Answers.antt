@@ -3,7 +3,7 @@ use Rattle.std.proofs.Common.{Ok, Err}
 use Rattle.kr_config.specs.Kept.{rows_of}
 use Rattle.kr_opening.specs.Replicas.{rows_in}
 use Rattle.kr_cmd_steps.specs.StoreSteps.{judgement_on, telling}
-use Rattle.kr_cmd_steps.proofs.Goes.{goes_on, stops}
+use Rattle.kr_cmd_steps.proofs.RunTo.{goes_on, stops}
 use Rattle.kr_cmd_store.proofs.Judging.{judges, tells_verdict}
 use Rattle.kr_cmd_store.proofs.judge.judgement_outcome.Goals as goal
 

@@ -1,10 +1,10 @@
 -- The store's tape is borrowed for the look-up, and is back then.
 use Rattle.std.proofs.Common.{◌∙◌}
 use Rattle.kr_kms.specs.declared.world.Access.TheVariants.{ToRead}
-use Rattle.kr_cmd_steps.specs.Around.{with_world}
+use Rattle.kr_cmd_steps.specs.Environment.{with_world}
 use Rattle.kr_cmd_steps.specs.StoreSteps.{row_on}
 use Rattle.kr_cmd_steps.specs.Phases.{read_for}
-use Rattle.kr_cmd_steps.proofs.Goes.{by_bytes}
+use Rattle.kr_cmd_steps.proofs.RunTo.{by_bytes}
 use Rattle.kr_cmd_steps.proofs.Returning.{lends_read, read_links}
 use Rattle.kr_cmd_steps.proofs.Tapes.{not_lent, is_out}
 use Rattle.kr_cmd_store.proofs.lookup.find_row.Goals as goal

@@ -4,7 +4,7 @@ use Rattle.kr_base.specs.Limits.{path_limit, value_limit}
 use Rattle.kr_config.specs.Kept.{ConfigEntry, rows_of}
 use Rattle.kr_provider.specs.PluginOrder.{plugin_order}
 use Rattle.kr_store.specs.declared.rows.Row as stored
-use Rattle.kr_cmd_steps.specs.Around.{with_exchanges, with_world}
+use Rattle.kr_cmd_steps.specs.Environment.{with_exchanges, with_world}
 use Rattle.kr_cmd_steps.specs.Phases.{read_for}
 use Rattle.kr_cmd_steps.specs.ValueSteps.{bench_steps}
 use Rattle.kr_cmd_steps.specs.StoreSteps.{row_on}
@@ -16,7 +16,7 @@ use Rattle.kr_cmd_messages.specs.declared.refusal.Outcome.{Outcome}
 use Rattle.kr_cmd_messages.specs.declared.refusal.Stop.TheVariants.{NoMemory}
 use Rattle.kr_cmd_steps.proofs.Apart.{bench_by, unlent}
 use Rattle.kr_cmd_steps.proofs.Configured.{configured, unconfigured_heard}
-use Rattle.kr_cmd_steps.proofs.Goes.{files_same, goes_on, not_opened, stops}
+use Rattle.kr_cmd_steps.proofs.RunTo.{files_same, goes_on, not_opened, stops}
 use Rattle.kr_cmd_steps.proofs.HeardLinks.{heard_so, heard_within, nothing_does}
 use Rattle.kr_cmd_steps.proofs.NamedPrograms.{names_in}
 use Rattle.kr_cmd_store.proofs.lookup.get.Goals as goal

@@ -7,7 +7,7 @@ use Rattle.kr_cmd_steps.specs.Steps.{and_then, give}
 use Rattle.kr_cmd_steps.specs.inner.Lent.{with_lent_tape}
 use Rattle.kr_cmd_steps.specs.inner.Phases.{Does}
 use Rattle.kr_cmd_steps.specs.inner.Tapes.{stored_of}
-use Rattle.kr_cmd_steps.proofs.Goes.{goes_on, stops}
+use Rattle.kr_cmd_steps.proofs.RunTo.{goes_on, stops}
 use Rattle.kr_cmd_steps.proofs.Loading.{as_closed}
 use Rattle.kr_cmd_store.proofs.Migrating.{migrated_all}
 use Rattle.kr_cmd_steps.proofs.Works.{lacks}

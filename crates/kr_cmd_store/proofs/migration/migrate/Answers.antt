@@ -8,7 +8,7 @@ use Rattle.kr_cmd_steps.specs.StoreSteps.{migrating_into, source_on}
 use Rattle.kr_cmd_steps.specs.Steps.{Steps, and_then}
 use Rattle.kr_cmd_messages.specs.declared.command.Migration.{Migration}
 use Rattle.kr_cmd_messages.specs.declared.refusal.Outcome.{Outcome}
-use Rattle.kr_cmd_steps.proofs.Goes.{goes_on, stops, by_bytes}
+use Rattle.kr_cmd_steps.proofs.RunTo.{goes_on, stops, by_bytes}
 use Rattle.kr_cmd_steps.proofs.Tapes.{not_lent, lends_tape, is_out}
 use Rattle.kr_cmd_store.proofs.migration.migrate.Goals as goal
 

@@ -3,13 +3,13 @@ use Rattle.std.proofs.Common.{◌≡◌, ◌∙◌, false, sym, subst, ap, arith
 use Rattle.kr_config.specs.Kept.{rows_of}
 use Rattle.kr_kms.specs.Outside.{same_name}
 use Rattle.kr_kms.specs.declared.world.Access.TheVariants.{ToMake}
-use Rattle.kr_cmd_steps.specs.Around.{with_world}
+use Rattle.kr_cmd_steps.specs.Environment.{with_world}
 use Rattle.kr_cmd_steps.specs.StoreSteps.{copied_into, migrating_into, target_on}
 use Rattle.kr_cmd_steps.specs.Steps.{and_then}
 use Rattle.kr_cmd_messages.specs.declared.refusal.Object.TheVariants.{Target}
 use Rattle.kr_cmd_steps.specs.inner.Lent.{with_lent_tape}
 use Rattle.kr_cmd_steps.specs.inner.Tapes.{stored_of}
-use Rattle.kr_cmd_steps.proofs.Goes.{by_bytes}
+use Rattle.kr_cmd_steps.proofs.RunTo.{by_bytes}
 use Rattle.kr_cmd_steps.proofs.Settling.{returned_out, settled_links}
 use Rattle.kr_cmd_steps.proofs.Tapes.{is_out}
 use Rattle.kr_cmd_store.proofs.TwoTapes.{not_lent_behind, settles_behind}

@@ -1,11 +1,11 @@
 -- `migrate_tape`: the source is loaded, and its tape is out until the target's is back.
 use Rattle.kr_config.specs.Kept.{rows_of}
-use Rattle.kr_cmd_steps.specs.Around.{with_world}
+use Rattle.kr_cmd_steps.specs.Environment.{with_world}
 use Rattle.kr_cmd_steps.specs.StoreSteps.{migrating_into, source_on}
 use Rattle.kr_cmd_steps.specs.Steps.{and_then}
 use Rattle.kr_cmd_steps.specs.inner.Lent.{with_lent_tape}
 use Rattle.kr_cmd_steps.specs.inner.Tapes.{stored_of}
-use Rattle.kr_cmd_steps.proofs.Goes.{goes_on, stops}
+use Rattle.kr_cmd_steps.proofs.RunTo.{goes_on, stops}
 use Rattle.kr_cmd_steps.proofs.Loading.{as_closed}
 use Rattle.kr_cmd_store.proofs.migration.migrate_tape.Goals as goal
 

@@ -3,8 +3,8 @@ use Rattle.std.proofs.Common.{◌≡◌, ◌++◌, ◌<◌, [], arith, ap, subst
 use Rattle.kr_config.specs.Kept.{rows_of}
 use Rattle.kr_provider.specs.Names.{names_of}
 use Rattle.kr_provider.specs.PluginOrder.{plugin_order}
-use Rattle.kr_cmd_steps.specs.Around.{with_exchanges, with_world}
-use Rattle.kr_cmd_steps.proofs.Goes.{not_opened, lends_to}
+use Rattle.kr_cmd_steps.specs.Environment.{with_exchanges, with_world}
+use Rattle.kr_cmd_steps.proofs.RunTo.{not_opened, lends_to}
 use Rattle.kr_cmd_steps.proofs.HeardLinks.{heard_alone, heard_so, heard_within, nothing_does}
 use Rattle.kr_cmd_steps.proofs.Linked.{none_named, without_links}
 use Rattle.kr_cmd_steps.proofs.NamedPrograms.{names_in}

@@ -1,6 +1,6 @@
 use Rattle.std.proofs.Common.{◌∙◌}
 use Rattle.kr_kms.specs.declared.world.Access.TheVariants.{ToRead}
-use Rattle.kr_cmd_steps.specs.Around.{with_world}
+use Rattle.kr_cmd_steps.specs.Environment.{with_world}
 use Rattle.kr_cmd_steps.proofs.Tapes.{not_lent, lends_tape, is_out}
 use Rattle.kr_cmd_store.proofs.rows.list.Goals as goal
 

@@ -2,7 +2,7 @@
 use Rattle.std.proofs.Common.{◌≡◌, ℕ, List, [], refl, sym, subst}
 use Rattle.kr_config.specs.Kept.{ConfigEntry, rows_of}
 use Rattle.kr_provider.specs.PluginOrder.{plugin_order}
-use Rattle.kr_cmd_steps.specs.Around.{Around, with_exchanges, with_world}
+use Rattle.kr_cmd_steps.specs.Environment.{Environment, with_exchanges, with_world}
 use Rattle.kr_cmd_steps.specs.StoreSteps.{stored_into}
 use Rattle.kr_cmd_steps.specs.Steps.{Steps}
 use Rattle.kr_cmd_messages.specs.declared.command.Conversion.{Conversion}
@@ -51,7 +51,7 @@ returns g c =
     let programs = c.in-Ok.read.1 in
     let bytes = c.in-Ok-take_input.bytes in
     let mid = g.W.World.told c.linked_settings.new.world in
-    let taken : Around → Around = λ a. with_told_input (g.I.Source.left c.take_input.new.input)
+    let taken : Environment → Environment = λ a. with_told_input (g.I.Source.left c.take_input.new.input)
     (g.I.Source.count c.take_input.new.input) a in
     let link = g.W.Link.Kms.link in
     let lent = g.W.World.lent in

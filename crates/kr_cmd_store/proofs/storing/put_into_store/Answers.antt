@@ -6,8 +6,8 @@ use Rattle.kr_cmd_steps.specs.StoreSteps.{sealed_into, stored_into}
 use Rattle.kr_cmd_steps.specs.Phases.{stored_on}
 use Rattle.kr_cmd_steps.specs.Steps.{and_then}
 use Rattle.kr_cmd_messages.specs.declared.refusal.Object.TheVariants.{Store}
-use Rattle.kr_cmd_steps.proofs.Goes.{by_bytes}
-use Rattle.kr_cmd_steps.specs.Around.{with_exchanges, with_world}
+use Rattle.kr_cmd_steps.proofs.RunTo.{by_bytes}
+use Rattle.kr_cmd_steps.specs.Environment.{with_exchanges, with_world}
 use Rattle.kr_cmd_steps.proofs.HeardLinks.{heard_so, heard_within, nothing_does}
 use Rattle.kr_cmd_steps.proofs.Settling.{lends_settled_to, settled_links}
 use Rattle.kr_cmd_steps.proofs.Tapes.{not_lent, is_out}

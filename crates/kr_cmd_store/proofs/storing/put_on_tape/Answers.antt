@@ -9,7 +9,7 @@ use Rattle.kr_config.specs.Lists.{list_of}
 use Rattle.kr_kms.specs.Outside.{same_name}
 use Rattle.kr_provider.specs.Readers.{writer_of}
 use Rattle.kr_store.specs.Rows.{check_in, put_of}
-use Rattle.kr_cmd_steps.specs.Around.{with_exchanges, with_lent, with_world}
+use Rattle.kr_cmd_steps.specs.Environment.{with_exchanges, with_lent, with_world}
 use Rattle.kr_opening.specs.Checks.{store_check}
 use Rattle.kr_cmd_steps.specs.Phases.{adding, silently, stored_on}
 use Rattle.kr_cmd_steps.specs.ValueSteps.{bench_steps}
@@ -26,7 +26,7 @@ use Rattle.kr_cmd_steps.specs.inner.Phases.{Does}
 use Rattle.kr_cmd_steps.specs.inner.Tapes.{stored_of}
 use Rattle.kr_cmd_steps.proofs.Adding.{put_answers}
 use Rattle.kr_cmd_steps.proofs.Apart.{bench_by}
-use Rattle.kr_cmd_steps.proofs.Goes.{goes_on, stops}
+use Rattle.kr_cmd_steps.proofs.RunTo.{goes_on, stops}
 use Rattle.kr_cmd_steps.proofs.Loading.{as_closed}
 use Rattle.kr_cmd_steps.proofs.HeardLinks.{heard_nothing, heard_so}
 use Rattle.kr_cmd_steps.proofs.Hearing.{none_heard}

@@ -4,7 +4,7 @@ use Rattle.kr_kms.specs.Outside.{Outside}
 use Rattle.kr_kms.specs.declared.world.Access.TheVariants.{ToRead}
 use Rattle.kr_store.specs.declared.rows.Row.{Row}
 use Rattle.kr_cmd_messages.specs.declared.refusal.Stop.{Stop}
-use Rattle.kr_cmd_steps.specs.Around.{with_world}
+use Rattle.kr_cmd_steps.specs.Environment.{with_world}
 use Rattle.kr_cmd_steps.specs.StoreSteps.{live_on}
 use Rattle.kr_cmd_steps.specs.inner.Tapes.{ReturnsRead}
 use Rattle.kr_cmd_steps.proofs.Returning.{lends_read, read_links}

@@ -3,7 +3,7 @@ use Rattle.std.proofs.Common.{◌≡◌, List, [], refl, sym, subst, ◌∙◌}
 use Rattle.std.specs.Prelude.{All}
 use Rattle.kr_config.specs.Kept.{ConfigEntry, rows_of}
 use Rattle.kr_provider.specs.PluginOrder.{plugin_order}
-use Rattle.kr_cmd_steps.specs.Around.{with_world}
+use Rattle.kr_cmd_steps.specs.Environment.{with_world}
 use Rattle.kr_cmd_steps.specs.Phases.{read_for}
 use Rattle.kr_cmd_steps.specs.StoreSteps.{live_on, verifying_with}
 use Rattle.kr_cmd_steps.specs.Steps.{Steps, and_then}
@@ -11,7 +11,7 @@ use Rattle.kr_cmd_steps.specs.declared.programs.Program.{Program}
 use Rattle.kr_cmd_messages.specs.declared.command.Verification.{Verification}
 use Rattle.kr_cmd_messages.specs.declared.refusal.Outcome.{Outcome}
 use Rattle.kr_cmd_steps.proofs.Configured.{configured, unconfigured_heard}
-use Rattle.kr_cmd_steps.proofs.Goes.{by_bytes, goes_on, stops}
+use Rattle.kr_cmd_steps.proofs.RunTo.{by_bytes, goes_on, stops}
 use Rattle.kr_cmd_steps.proofs.HeardLinks.{heard_so, heard_within, nothing_does}
 use Rattle.kr_cmd_steps.proofs.NamedPrograms.{names_in}
 use Rattle.kr_cmd_store.specs.inner.Verifying.{IsWithin}

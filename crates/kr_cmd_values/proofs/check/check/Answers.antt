@@ -1,10 +1,10 @@
 use Rattle.std.proofs.Common.{◌≡◌, Ok, sym, subst}
 use Rattle.kr_config.specs.Kept.{rows_of}
-use Rattle.kr_cmd_steps.specs.Around.{with_world}
+use Rattle.kr_cmd_steps.specs.Environment.{with_world}
 use Rattle.kr_cmd_steps.specs.Check.{listing}
 use Rattle.kr_cmd_steps.specs.Phases.{configuration, show}
 use Rattle.kr_cmd_steps.specs.inner.Phases.{Does}
-use Rattle.kr_cmd_steps.proofs.Goes.{goes_on, stops, shows}
+use Rattle.kr_cmd_steps.proofs.RunTo.{goes_on, stops, shows}
 use Rattle.kr_cmd_values.proofs.check.check.Goals as goal
 
 pub returns-in-Err-clause-does : goal.returns-in-Err-clause-does

@@ -1,7 +1,7 @@
 use Rattle.std.proofs.Common.{◌≡◌, ℕ, List, [], ap, refl, sym, subst}
 use Rattle.kr_config.specs.Kept.{ConfigEntry, rows_of}
 use Rattle.kr_provider.specs.PluginOrder.{plugin_order}
-use Rattle.kr_cmd_steps.specs.Around.{Around, with_exchanges}
+use Rattle.kr_cmd_steps.specs.Environment.{Environment, with_exchanges}
 use Rattle.kr_cmd_steps.specs.ValueSteps.{bench_steps}
 use Rattle.kr_cmd_steps.specs.Steps.{Steps}
 use Rattle.kr_cmd_steps.specs.inner.Lent.{with_told_input}
@@ -48,7 +48,7 @@ returns g c =
     let settings = c.in-Ok.read.0 in
     let programs = c.in-Ok.read.1 in
     let mid = g.W.World.told c.linked_settings.new.world in
-    let taken : Around → Around = λ a. with_told_input (g.I.Source.left c.take_input.new.input)
+    let taken : Environment → Environment = λ a. with_told_input (g.I.Source.left c.take_input.new.input)
     (g.I.Source.count c.take_input.new.input) a in
     let link = g.W.Link.Kms.link in
     let lent = g.W.World.lent in

@@ -4,7 +4,7 @@ use Rattle.kr_cmd_steps.specs.Inspect.{Inspects}
 use Rattle.kr_cmd_steps.specs.inner.Lent.{with_told_input}
 use Rattle.kr_cmd_steps.specs.inner.Phases.{Does, Yields}
 use Rattle.kr_cmd_messages.specs.declared.command.Direction.TheVariants.{Decrypt}
-use Rattle.kr_cmd_steps.proofs.Goes.{goes_on, stops, shows}
+use Rattle.kr_cmd_steps.proofs.RunTo.{goes_on, stops, shows}
 use Rattle.kr_cmd_values.proofs.inspect.inspect.Goals as goal
 
 pub returns-in-Err : goal.returns-in-Err

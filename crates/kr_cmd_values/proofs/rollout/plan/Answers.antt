@@ -1,11 +1,11 @@
 use Rattle.std.proofs.Common.{◌∙◌, sym, subst}
 use Rattle.kr_config.specs.Kept.{rows_of}
-use Rattle.kr_cmd_steps.specs.Around.{with_world}
+use Rattle.kr_cmd_steps.specs.Environment.{with_world}
 use Rattle.kr_cmd_steps.specs.Phases.{configuration, show}
 use Rattle.kr_cmd_steps.specs.PlanLines.{ShowsPlan}
 use Rattle.kr_cmd_steps.specs.Steps.{and_then}
 use Rattle.kr_cmd_steps.specs.inner.Phases.{Does}
-use Rattle.kr_cmd_steps.proofs.Goes.{by_bytes, goes_on, stops, shows}
+use Rattle.kr_cmd_steps.proofs.RunTo.{by_bytes, goes_on, stops, shows}
 use Rattle.kr_cmd_values.proofs.rollout.plan.Goals as goal
 
 pub returns-in-Err-clause-does : goal.returns-in-Err-clause-does

@@ -1,7 +1,7 @@
 -- `watch`: the plan, what the workers left, what a watch shows of it, and what was written.
 use Rattle.std.proofs.Common.{true, [], None, refl, ap, ◌∙◌}
 use Rattle.kr_workers.specs.Endings.{gravest_ending}
-use Rattle.kr_cmd_steps.specs.Around.{Around, around, with_exchanges, with_world}
+use Rattle.kr_cmd_steps.specs.Environment.{Environment, around, with_exchanges, with_world}
 use Rattle.kr_cmd_steps.proofs.Hearing.{heard_none, none_heard}
 use Rattle.kr_cmd_fleet.specs.inner.Plans.{plan_of}
 use Rattle.kr_cmd_fleet.proofs.CallEnds.{IsPlanned, stopped, unplanned}
@@ -12,7 +12,7 @@ use Rattle.kr_cmd_watch.proofs.watching.watch.Goals.{In-Ok-run_fleet_over_store}
 use Rattle.kr_cmd_watch.proofs.watching.watch.Goals as goal
 
 -- the workers ran
-went : (g : Over) (c : In-Ok-run_fleet_over_store g) (a : Around)
+went : (g : Over) (c : In-Ok-run_fleet_over_store g) (a : Environment)
     → HasLeft g.row.W-Tap.Denot g.W.Link.Kms.link g.W.Link.Kms.step g.W.World.lent
     g.W.World.took g.W.Rand.Dice.left g.W.Rand.Dice.count c.args.words.now
     (with_world (g.W.World.told c.args.world.now) a)

@@ -1,7 +1,7 @@
 -- `answer`: the value of the command was written, or the words mean none.
 use Rattle.std.proofs.Common.{◌≡◌, ℕ, List, [], Option, None, Some, Result, Err, refl, subst, inr}
 use Rattle.kr_words.specs.Grammar.{texts}
-use Rattle.kr_cmd_steps.specs.Around.{Around, around, with_exchanges, with_what_is_said}
+use Rattle.kr_cmd_steps.specs.Environment.{Environment, around, with_exchanges, with_what_is_said}
 use Rattle.kr_cmd_messages.specs.Command.{Asks}
 use Rattle.kr_cmd_steps.specs.Ran.{Answers, StopsAtOnce, Writes}
 use Rattle.kr_cmd_messages.specs.Receipts.{Receipt, receipt}
@@ -25,12 +25,12 @@ at_once words NoMemory bad = tt
 at_once words other bad = absurd bad
 
 -- what a command reported was said
-said_so : (said : Option RewriteCounts) (now : Around) → now.said ≡ []
+said_so : (said : Option RewriteCounts) (now : Environment) → now.said ≡ []
     → saying said now ≡ with_what_is_said (said_text said) now
 said_so None now silent = λ i. record now { said = silent i }
 said_so (Some counts) now silent = refl
 
-answers_by : (words : List (List ℕ)) (old now : Around) → now.said ≡ [] → (command : Command)
+answers_by : (words : List (List ℕ)) (old now : Environment) → now.said ≡ [] → (command : Command)
     (said : Option RewriteCounts) (made : Result Outcome Stop) (output : Receipt)
     (result : Result Done Stop) → Asks words command
     → DoesAll command old (saying said now) made → Writes (said_text said) output made result

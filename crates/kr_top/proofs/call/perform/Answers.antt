@@ -2,7 +2,7 @@
 use Rattle.std.proofs.Common.{Some, refl, sym, ◌∙◌, ap, subst}
 use Rattle.kr_cmd_messages.specs.declared.command.Command.TheVariants.{Check, Rows}
 use Rattle.kr_cmd_messages.specs.inner.Asking.{KeepsRules}
-use Rattle.kr_cmd_steps.specs.Around.{with_world}
+use Rattle.kr_cmd_steps.specs.Environment.{with_world}
 use Rattle.kr_top.proofs.Performing.{asking, asking_alone, reporting, unasking, unasking_alone}
 use Rattle.kr_top.proofs.call.perform.Goals as goal
 

@@ -1,18 +1,18 @@
--- What is around a command, and how its steps end there.
+-- A command's environment, and how its steps end there.
 use Rattle.std.specs.Prelude.{◌≡◌, ℕ, ◌-◌, ◌≤◌, ◌⊎◌, Bool, List, [], Option, None, Result, Ok, Err, if◌then◌else◌, ⊤}
 use Rattle.std.specs.Io.KnownBytes.{Keeps}
 use Rattle.kr_base.specs.Faults.{Rose}
 use Rattle.kr_kms.specs.Outside.{Outside, Objects, KeepsFiles, file_faults, at_key}
-use Rattle.kr_cmd_steps.specs.Steps.{Steps, Call, loading, reading, opening, lending, scanning, writing, settling, drawing, object_of, Point, awaits, amid, refuses, gives, Left, Goes, hearing, linking, asking}
+use Rattle.kr_cmd_steps.specs.Steps.{Steps, Call, loading, reading, opening, lending, scanning, writing, settling, drawing, object_of, Point, awaits, amid, refuses, gives, StepState, RunTo, hearing, linking, asking}
 use Rattle.kr_kms.specs.Exchanges.{Exchange}
 use Rattle.kr_cmd_messages.specs.declared.refusal.Object.{Object}
 use Rattle.kr_cmd_messages.specs.declared.refusal.Stop.{Stop}
 use Rattle.kr_cmd_messages.specs.declared.refusal.Stop.TheVariants.{Words, Refused, Fault, NoMemory}
 
--- what is around a command: the world and the input, with what they tell and their counts of
+-- a command's environment: the world and the input, with what they tell and their counts of
 -- faults; what is to be written in place of a value; and what plugins were asked so far and
 -- answered, where that is told
-pub record Around : Type 0 where
+pub record Environment : Type 0 where
   pub world : Outside
   pub input : Option (List ℕ)
   pub faults : ℕ
@@ -20,7 +20,7 @@ pub record Around : Type 0 where
   pub heard : Option (List Exchange)
 
 -- what is asked of plugins isn't told
-abbrev pub around : Outside → Option (List ℕ) → ℕ → Around
+abbrev pub around : Outside → Option (List ℕ) → ℕ → Environment
 around world input faults = record {
   world = world;
   input = input;
@@ -31,18 +31,18 @@ around world input faults = record {
 
 -- ---- its parts
 
-abbrev pub with_what_is_said : List ℕ → Around → Around
+abbrev pub with_what_is_said : List ℕ → Environment → Environment
 with_what_is_said said a = record a { said = said }
 
-abbrev pub with_world : Outside → Around → Around
+abbrev pub with_world : Outside → Environment → Environment
 with_world world a = record a { world = world }
 
 -- these exchanges behind those that are told
-abbrev pub with_exchanges : List Exchange → Around → Around
+abbrev pub with_exchanges : List Exchange → Environment → Environment
 with_exchanges exchanges a = record a { heard = hearing exchanges a.heard }
 
 -- what plugins are asked isn't told
-abbrev pub IsUnheard : Around → Type 0
+abbrev pub IsUnheard : Environment → Type 0
 IsUnheard a = a.heard ≡ None
 
 -- an object that is out, of which this is told, stands as if it were at home
@@ -58,7 +58,7 @@ with_lent same key told faults objects = record {
 -- ---- faults
 
 -- the faults of a kind of call
-abbrev pub faults_at : Call → Around → ℕ
+abbrev pub faults_at : Call → Environment → ℕ
 faults_at (loading name) around = around.world.faults.loads
 faults_at reading around = around.faults
 faults_at (opening seat) around = around.world.faults.dice
@@ -71,7 +71,7 @@ faults_at (linking seat plugin) around = around.world.faults.links
 faults_at (asking seat plugin) around = around.world.links.faults (seat, plugin)
 
 -- the faults of its object
-abbrev pub count_at : Call → Around → ℕ
+abbrev pub count_at : Call → Environment → ℕ
 count_at (loading name) around = file_faults around.world
 count_at reading around = around.faults
 count_at (opening seat) around = file_faults around.world
@@ -84,7 +84,7 @@ count_at (linking seat plugin) around = file_faults around.world
 count_at (asking seat plugin) around = around.world.links.faults (seat, plugin)
 
 -- the call failed: its count rose, and the object's count is this
-abbrev pub IsFault : Call → Object → ℕ → Around → Around → Type 0
+abbrev pub IsFault : Call → Object → ℕ → Environment → Environment → Type 0
 IsFault call object count old new =
     (object ≡ object_of call) × Rose (faults_at call old) (faults_at call new)
     × (count ≡ count_at call new)
@@ -105,8 +105,9 @@ MayLack (asking seat plugin) = ⊤
 
 -- ---- what steps did
 
--- nothing was consumed, said, or asked of the world or of plugins but what is left of
-pub record Stays (left : Left) (new : Around) : Type 0 where
+-- the environment is as a state has it: nothing was consumed, said, or asked of the world or of
+-- plugins but what the state tells
+pub record IsStateOf (left : StepState) (new : Environment) : Type 0 where
   pub file : new.world.file ≡ left.file
   pub tapes : new.world.tapes.told ≡ left.tapes
   pub links : new.world.links.told ≡ left.links
@@ -116,8 +117,8 @@ pub record Stays (left : Left) (new : Around) : Type 0 where
   pub heard : new.heard ≡ left.heard
   pub said : new.said ≡ left.said
 
-abbrev pub left_of : Around → Left
-left_of around = record {
+abbrev pub step_state : Environment → StepState
+step_state around = record {
   file = around.world.file;
   tapes = around.world.tapes.told;
   links = around.world.links.told;
@@ -128,12 +129,12 @@ left_of around = record {
   said = around.said;
 }
 
--- from what is left the steps come to this point, and nothing was done but by them
-pub record Reaches {A : Type 0} (next : Steps A) (left : Left) (new : Around)
+-- from a state the steps end at this point in this environment, and nothing was done but by them
+pub record StepsEndAt {A : Type 0} (next : Steps A) (left : StepState) (new : Environment)
     (point : Point A) : Type 0 where
-  pub end : Left
-  pub goes : Goes point end next left
-  pub stays : Stays end new
+  pub end : StepState
+  pub goes : RunTo point end next left
+  pub stays : IsStateOf end new
 
 -- what was handed out is back, and no count fell
 pub record AreHome {K V : Type 0} (old new : Objects K V) : Type 0 where
@@ -141,7 +142,7 @@ pub record AreHome {K V : Type 0} (old new : Objects K V) : Type 0 where
   pub later : (key : K) → old.faults key ≤ new.faults key
 
 -- the files are the same, all that was handed out is back, and no count fell
-pub record IsHome (old new : Around) : Type 0 where
+pub record IsHome (old new : Environment) : Type 0 where
   pub files : KeepsFiles old.world new.world
   pub dice : AreHome old.world.dice new.world.dice
   pub tapes : AreHome old.world.tapes new.world.tapes
@@ -150,12 +151,13 @@ pub record IsHome (old new : Around) : Type 0 where
 
 -- how steps end: a fault stands only for the call that they come to, and want of memory for any
 -- where it may lack, or between two
-abbrev pub Ends : {A : Type 0} → Steps A → Left → Around → Around → Result A Stop → Type 0
-Ends next left old new (Ok x) = Reaches next left new (gives x)
+abbrev pub Ends : {A : Type 0} → Steps A → StepState → Environment → Environment → Result A Stop
+    → Type 0
+Ends next left old new (Ok x) = StepsEndAt next left new (gives x)
 Ends next left old new (Err (Words why)) = ⊥
-Ends next left old new (Err (Refused why)) = Reaches next left new (refuses why)
+Ends next left old new (Err (Refused why)) = StepsEndAt next left new (refuses why)
 Ends next left old new (Err (Fault object count)) =
-    (call : Call) × Reaches next left new (awaits call) × IsFault call object count old new
+    (call : Call) × StepsEndAt next left new (awaits call) × IsFault call object count old new
 Ends next left old new (Err NoMemory) =
-    ((call : Call) × MayLack call × Reaches next left new (awaits call))
-    ⊎ Reaches next left new amid
+    ((call : Call) × MayLack call × StepsEndAt next left new (awaits call))
+    ⊎ StepsEndAt next left new amid

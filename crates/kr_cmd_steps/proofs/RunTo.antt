@@ -12,10 +12,10 @@ use Rattle.kr_kms.specs.declared.world.WorldCall.{WorldCall}
 use Rattle.kr_kms.specs.declared.world.WorldCall.TheVariants.{File, Link, RandomSource}
 use Rattle.kr_kms.proofs.Lent.{seats_decide}
 use Rattle.kr_config.specs.declared.settings.Settings.{Settings}
-use Rattle.kr_cmd_steps.specs.Around.{Around, with_world, with_lent, left_of, faults_at, Stays, Reaches, AreHome, IsHome, Ends, MayLack, count_at}
+use Rattle.kr_cmd_steps.specs.Environment.{Environment, with_world, with_lent, step_state, faults_at, IsStateOf, StepsEndAt, AreHome, IsHome, Ends, MayLack, count_at}
 use Rattle.kr_cmd_steps.specs.Phases.{by_result, configuration, show, input_of, input_limit, long_input}
 use Rattle.kr_cmd_steps.specs.Configuration.{Entries}
-use Rattle.kr_cmd_steps.specs.Steps.{Steps, load, take_input, borrow_dice, borrow_tape, read_tape, write_row, keep_rows, settle, give_back, draw, note, find, refuse, give, and_then, Call, loading, reading, opening, lending, scanning, writing, settling, drawing, Point, awaits, amid, refuses, gives, Left, with_input, with_asked, IsAt, Goes, borrow_link, ask_status, wrap, unwrap, linking, asking, object_of}
+use Rattle.kr_cmd_steps.specs.Steps.{Steps, load, take_input, borrow_dice, borrow_tape, read_tape, write_row, keep_rows, settle, give_back, draw, note, find, refuse, give, and_then, Call, loading, reading, opening, lending, scanning, writing, settling, drawing, Point, awaits, amid, refuses, gives, StepState, with_input, with_asked, IsAt, RunTo, borrow_link, ask_status, wrap, unwrap, linking, asking, object_of}
 use Rattle.kr_cmd_steps.specs.inner.Lent.{with_told_input, with_lent_dice}
 use Rattle.kr_cmd_steps.specs.inner.Phases.{Does, AskedUnless, AskedFor, rows_in, IsFileRead, Configures, TakesInput, Yields, shown_as, DiceLoan, DiceReturn, LendsNothing}
 use Rattle.kr_cmd_messages.specs.declared.command.Direction.{Direction}
@@ -25,11 +25,11 @@ use Rattle.kr_cmd_messages.specs.declared.refusal.Stop.{Stop}
 use Rattle.kr_cmd_messages.specs.declared.refusal.Stop.TheVariants.{Words, Refused, Fault, NoMemory}
 use Rattle.kr_cmd_steps.proofs.Lending.{AreSeen, home_same, lent_seen, seen_same, back_is}
 
-pub reach : {A : Type 0} {next : Steps A} {left : Left} {new : Around} {point : Point A} (end : Left)
-    → Goes point end next left → Stays end new → Reaches next left new point
+pub reach : {A : Type 0} {next : Steps A} {left : StepState} {new : Environment} {point : Point A} (end : StepState)
+    → RunTo point end next left → IsStateOf end new → StepsEndAt next left new point
 reach end goes stays = record { end = end; goes = goes; stays = stays }
 
-pub stays_refl : (a : Around) → Stays (left_of a) a
+pub stays_refl : (a : Environment) → IsStateOf (step_state a) a
 stays_refl a = record {
   file = refl;
   tapes = refl;
@@ -42,7 +42,7 @@ stays_refl a = record {
 }
 
 -- what is left, but for these parts of another
-abbrev beside : Left → Left → Left
+abbrev beside : StepState → StepState → StepState
 beside other left = record left {
   tapes = other.tapes;
   asked = other.asked;
@@ -51,18 +51,18 @@ beside other left = record left {
 }
 
 -- nothing was consumed where the other parts are as they were
-pub stays_as : {left last : Left} {old new : Around} → Stays left old → beside left last ≡ left
-    → beside (left_of old) (left_of new) ≡ left_of old → new.world.tapes.told ≡ last.tapes
+pub stays_as : {left last : StepState} {old new : Environment} → IsStateOf left old → beside left last ≡ left
+    → beside (step_state old) (step_state new) ≡ step_state old → new.world.tapes.told ≡ last.tapes
     → new.world.asked ≡ last.asked → new.heard ≡ last.heard → new.said ≡ last.said
-    → Stays last new
+    → IsStateOf last new
 stays_as {left} {last} {old} {new} s given kept tapes asked heard said = record {
-  file = ap (λ (l : Left). l.file) kept ∙ s.file ∙ sym (ap (λ (l : Left). l.file) given);
+  file = ap (λ (l : StepState). l.file) kept ∙ s.file ∙ sym (ap (λ (l : StepState). l.file) given);
   tapes = tapes;
-  links = ap (λ (l : Left). l.links) kept ∙ s.links ∙ sym (ap (λ (l : Left). l.links) given);
-  input = subst (λ (l : Left). Keeps l.input new.input) (sym given)
-      (subst (λ (l : Left). Keeps left.input l.input) (sym kept) s.input);
-  dice = λ seat. subst (λ (l : Left). Keeps (l.dice seat) (new.world.dice.told seat)) (sym given)
-      (subst (λ (l : Left). Keeps (left.dice seat) (l.dice seat)) (sym kept) (s.dice seat));
+  links = ap (λ (l : StepState). l.links) kept ∙ s.links ∙ sym (ap (λ (l : StepState). l.links) given);
+  input = subst (λ (l : StepState). Keeps l.input new.input) (sym given)
+      (subst (λ (l : StepState). Keeps left.input l.input) (sym kept) s.input);
+  dice = λ seat. subst (λ (l : StepState). Keeps (l.dice seat) (new.world.dice.told seat)) (sym given)
+      (subst (λ (l : StepState). Keeps (left.dice seat) (l.dice seat)) (sym kept) (s.dice seat));
   asked = asked;
   heard = heard;
   said = said;
@@ -74,21 +74,21 @@ nothing = give tt
 
 -- ---- from one phase to the next
 
-module _ {A B : Type 0} (point : Point B) (last : Left) (others : A → Steps B) where
+module _ {A B : Type 0} (point : Point B) (last : StepState) (others : A → Steps B) where
   -- from where the first steps came to, the others went on; or all ended there
-  abbrev pub Further : Point A → Left → Type 0
+  abbrev pub Further : Point A → StepState → Type 0
   Further (awaits call) end = IsAt point last (awaits call) end
   Further amid end = IsAt point last amid end
   Further (refuses why) end = IsAt point last (refuses why) end
-  Further (gives x) end = Goes point last (others x) end
+  Further (gives x) end = RunTo point last (others x) end
 
-  land : {p : Point A} {end left : Left} (here : Point A) → (p ≡ here) × (end ≡ left)
+  land : {p : Point A} {end left : StepState} (here : Point A) → (p ≡ here) × (end ≡ left)
       → Further p end → Further here left
   land {p} {end} {left} here at f =
       subst (λ l. Further here l) at.1 (subst (λ q. Further q end) at.0 f)
 
-  pub further : (p : Point A) (end : Left) → Further p end → (first : Steps A) (left : Left)
-      → Goes p end first left → Goes point last (and_then first others) left
+  pub further : (p : Point A) (end : StepState) → Further p end → (first : Steps A) (left : StepState)
+      → RunTo p end first left → RunTo point last (and_then first others) left
   further p end f (load name next) left (inl at) = inl (land amid at f)
   further p end f (load name next) left (inr (inl at)) =
       inr (inl (land (awaits (loading name)) at f))
@@ -177,7 +177,7 @@ later_trans p q = record {
   links = omega (arith, p.links, q.links);
 }
 
-pub home_trans : {a b c : Around} → IsHome a b → IsHome b c → IsHome a c
+pub home_trans : {a b c : Environment} → IsHome a b → IsHome b c → IsHome a c
 home_trans p q = record {
   files = record {
     file = q.files.file ∙ p.files.file;
@@ -190,7 +190,7 @@ home_trans p q = record {
 }
 
 -- a count that rose is above what it was before that
-earlier : {old mid : Around} (new : Around) (call : Call) → IsHome old mid
+earlier : {old mid : Environment} (new : Environment) (call : Call) → IsHome old mid
     → Rose (faults_at call mid) (faults_at call new)
     → Rose (faults_at call old) (faults_at call new)
 earlier new (loading name) h r = Rose-later _ _ _ h.files.later.loads r
@@ -205,19 +205,19 @@ earlier new (linking seat plugin) h r = Rose-later _ _ _ h.files.later.links r
 earlier new (asking seat plugin) h r = Rose-later _ _ _ (h.links.later (seat, plugin)) r
 
 module _ {A B : Type 0} (first : Steps A) (others : A → Steps B) where
-  pub onward : {left : Left} {mid new : Around} {p : Point A} {point : Point B}
-      (r : Reaches first left mid p) (last : Left) → Further point last others p r.end
-      → Stays last new → Reaches (and_then first others) left new point
+  pub onward : {left : StepState} {mid new : Environment} {p : Point A} {point : Point B}
+      (r : StepsEndAt first left mid p) (last : StepState) → Further point last others p r.end
+      → IsStateOf last new → StepsEndAt (and_then first others) left new point
   onward {left} {p = p} {point} r last f s =
       reach last (further point last others p r.end f first left r.goes) s
 
-  pub joins : {left : Left} {mid new : Around} {x : A} {point : Point B}
-      (r : Reaches first left mid (gives x)) → Reaches (others x) r.end new point
-      → Reaches (and_then first others) left new point
+  pub joins : {left : StepState} {mid new : Environment} {x : A} {point : Point B}
+      (r : StepsEndAt first left mid (gives x)) → StepsEndAt (others x) r.end new point
+      → StepsEndAt (and_then first others) left new point
   joins r q = onward r q.end q.goes q.stays
 
-  goes_at : {left : Left} {old mid : Around} {x : A} (new : Around) (result : Result B Stop)
-      (r : Reaches first left mid (gives x)) → IsHome old mid
+  goes_at : {left : StepState} {old mid : Environment} {x : A} (new : Environment) (result : Result B Stop)
+      (r : StepsEndAt first left mid (gives x)) → IsHome old mid
       → Ends (others x) r.end mid new result → Ends (and_then first others) left old new result
   goes_at new (Ok y) r h q = joins r q
   goes_at new (Err (Words why)) r h q = q
@@ -227,7 +227,7 @@ module _ {A B : Type 0} (first : Steps A) (others : A → Steps B) where
   goes_at new (Err NoMemory) r h (inl (call, may, q)) = inl (call, may, joins r q)
   goes_at new (Err NoMemory) r h (inr q) = inr (joins r q)
 
-  stops_at : (left : Left) (old new : Around) (stop : Stop) → Ends first left old new (Err stop)
+  stops_at : (left : StepState) (old new : Environment) (stop : Stop) → Ends first left old new (Err stop)
       → Ends (and_then first others) left old new (Err stop)
   stops_at left old new (Words why) q = q
   stops_at left old new (Refused why) q = onward q q.end (refl, refl) q.stays
@@ -238,7 +238,7 @@ module _ {A B : Type 0} (first : Steps A) (others : A → Steps B) where
   stops_at left old new NoMemory (inr q) = inr (onward q q.end (refl, refl) q.stays)
 
   -- the first steps gave something, and the others ended so
-  pub goes_on : {old mid new : Around} {result : Result B Stop} (x : A) → Does first old mid (Ok x)
+  pub goes_on : {old mid new : Environment} {result : Result B Stop} (x : A) → Does first old mid (Ok x)
       → Does (others x) mid new result → Does (and_then first others) old new result
   goes_on {new = new} {result} x d e = record {
     home = home_trans d.home e.home;
@@ -247,12 +247,12 @@ module _ {A B : Type 0} (first : Steps A) (others : A → Steps B) where
   }
 
   -- the first steps ended the command
-  pub stops : {old new : Around} (stop : Stop) → Does first old new (Err stop)
+  pub stops : {old new : Environment} (stop : Stop) → Does first old new (Err stop)
       → Does (and_then first others) old new (Err stop)
   stops {old} {new} stop d =
       record { home = d.home; ends = λ left s. stops_at left old new stop (d.ends left s) }
 
-pub by_bytes : {A : Type 0} {old new : Around} {result : Result A Stop}
+pub by_bytes : {A : Type 0} {old new : Environment} {result : Result A Stop}
     (next : List ℕ → Steps A) {piece bytes : List ℕ}
     → piece ≡ bytes → Does (next piece) old new result → Does (next bytes) old new result
 by_bytes {old = old} {new} {result} next e d = subst (λ b. Does (next b) old new result) e d
@@ -279,7 +279,7 @@ files_same world = record {
   };
 }
 
-pub home_refl : (a : Around) → IsHome a a
+pub home_refl : (a : Environment) → IsHome a a
 home_refl a = record {
   files = files_same a.world;
   dice = home_same refl;
@@ -289,7 +289,7 @@ home_refl a = record {
 }
 
 -- where the world and the faults of the input are as they were, all is home
-pub home_as : {old mid new : Around} → new.world ≡ mid.world → new.faults ≡ mid.faults
+pub home_as : {old mid new : Environment} → new.world ≡ mid.world → new.faults ≡ mid.faults
     → IsHome old mid → IsHome old new
 home_as {old} same faults h = record {
   files = subst (λ w. KeepsFiles old.world w) (sym same) h.files;
@@ -301,7 +301,7 @@ home_as {old} same faults h = record {
 
 -- one more call was asked of the world, and nothing else done
 pub asks_alone : {A : Type 0} {next : Steps A} {made : A} (call : WorldCall)
-    → ((left : Left) → Goes (gives made) (with_asked call left) next left) → (a : Around)
+    → ((left : StepState) → RunTo (gives made) (with_asked call left) next left) → (a : Environment)
     → Does next a (with_world (record a.world { asked = with_call call a.world.asked }) a)
     (Ok made)
 asks_alone call goes a = let same = home_refl a in record {
@@ -316,8 +316,8 @@ asks_alone call goes a = let same = home_refl a in record {
       (stays_as s refl refl s.tapes (ap (with_call call) s.asked) s.heard s.said);
 }
 
-shows_at : (Is : Result (List ℕ) Refusal → Type 0) {left : Left} {a : Around}
-    (result : Result (List ℕ) Stop) → Yields Is result → Stays left a
+shows_at : (Is : Result (List ℕ) Refusal → Type 0) {left : StepState} {a : Environment}
+    (result : Result (List ℕ) Stop) → Yields Is result → IsStateOf left a
     → Ends (show Is) left a a (shown_as result)
 shows_at Is {left} (Ok text) is s = reach left (inr (Ok text, is, (refl, refl))) s
 shows_at Is (Err (Words why)) is s = absurd is
@@ -325,7 +325,7 @@ shows_at Is {left} (Err (Refused why)) is s = reach left (inr (Err why, is, (ref
 shows_at Is (Err (Fault object count)) is s = absurd is
 shows_at Is {left} (Err NoMemory) is s = inr (reach left (inl (refl, refl)) s)
 
-pub shows : (Is : Result (List ℕ) Refusal → Type 0) (a : Around) (result : Result (List ℕ) Stop)
+pub shows : (Is : Result (List ℕ) Refusal → Type 0) (a : Environment) (result : Result (List ℕ) Stop)
     → Yields Is result → Does (show Is) a a (shown_as result)
 shows Is a result is =
     record {
@@ -337,20 +337,20 @@ abbrev pub by_point : {A : Type 0} → Result A Refusal → Point A
 by_point (Ok x) = gives x
 by_point (Err why) = refuses why
 
-pub by_goes : {A : Type 0} (r : Result A Refusal) (left : Left)
-    → Goes (by_point r) left (by_result r) left
+pub by_goes : {A : Type 0} (r : Result A Refusal) (left : StepState)
+    → RunTo (by_point r) left (by_result r) left
 by_goes (Ok x) left = (refl, refl)
 by_goes (Err why) left = (refl, refl)
 
-pub given : {A : Type 0} (x : A) (a : Around) → Does (give x) a a (Ok x)
+pub given : {A : Type 0} (x : A) (a : Environment) → Does (give x) a a (Ok x)
 given x a = record { home = home_refl a; ends = λ left s. reach left (refl, refl) s }
 
 -- ---- the input
 
 module _ (limit : ℕ) (long : Refusal) (old new : Option (List ℕ)) (before count : ℕ)
-    (a : Around) where
-  taken : {left : Left} → Stays left (with_told_input old before a)
-      → Stays (with_input new left) (with_told_input new count a)
+    (a : Environment) where
+  taken : {left : StepState} → IsStateOf left (with_told_input old before a)
+      → IsStateOf (with_input new left) (with_told_input new count a)
   taken s = record {
     file = s.file;
     tapes = s.tapes;
@@ -362,14 +362,14 @@ module _ (limit : ℕ) (long : Refusal) (old new : Option (List ℕ)) (before co
     said = s.said;
   }
 
-  takes_some : {left : Left} → Stays left (with_told_input old before a)
+  takes_some : {left : StepState} → IsStateOf left (with_told_input old before a)
       → TakesAtMost old new limit
-      → Reaches (take_input limit long give) left (with_told_input new count a) (awaits reading)
+      → StepsEndAt (take_input limit long give) left (with_told_input new count a) (awaits reading)
   takes_some {left} s (bytes, c, short) = reach (with_input new left)
       (bytes, new, consumes_by bytes _ _ _ s.input c, inl (short, (refl, refl))) (taken s)
 
-  takes_at : {left : Left} (result : Result (List ℕ) Stop)
-      → Stays left (with_told_input old before a)
+  takes_at : {left : StepState} (result : Result (List ℕ) Stop)
+      → IsStateOf left (with_told_input old before a)
       → TakesInput limit long old new before count result
       → Ends (take_input limit long give) left (with_told_input old before a)
       (with_told_input new count a) result
@@ -400,7 +400,7 @@ module _ (limit : ℕ) (long : Refusal) (old new : Option (List ℕ)) (before co
   }
 
 pub takes_in : {old new : Option (List ℕ)} {before count : ℕ} {direction : Direction}
-    (wanted : Direction) (result : Result (List ℕ) Stop) (a : Around) → direction ≡ wanted
+    (wanted : Direction) (result : Result (List ℕ) Stop) (a : Environment) → direction ≡ wanted
     → TakesInput (input_limit wanted) (long_input wanted) old new before count result
     → before ≤ count
     → Does (input_of direction) (with_told_input old before a) (with_told_input new count a) result
@@ -418,7 +418,7 @@ asked_for old call (Err NoMemory) e = inr e
 asked_for old call other e = e
 
 module _ {old new : Outside} (files : KeepsFiles old new) (objects : KeepsObjects old new)
-    (a : Around) where
+    (a : Environment) where
   pub asked_home : IsHome (with_world old a) (with_world new a)
   asked_home = record {
     files = files;
@@ -428,8 +428,8 @@ module _ {old new : Outside} (files : KeepsFiles old new) (objects : KeepsObject
     input = omega arith;
   }
 
-  stays_asked : {left : Left} (asked : Option (List WorldCall)) → Stays left (with_world old a)
-      → new.asked ≡ asked → Stays (record left { asked = asked }) (with_world new a)
+  stays_asked : {left : StepState} (asked : Option (List WorldCall)) → IsStateOf left (with_world old a)
+      → new.asked ≡ asked → IsStateOf (record left { asked = asked }) (with_world new a)
   stays_asked {left} asked s made = record {
     file = files.file ∙ s.file;
     tapes = ap (λ o. o.told) objects.tapes ∙ s.tapes;
@@ -442,22 +442,22 @@ module _ {old new : Outside} (files : KeepsFiles old new) (objects : KeepsObject
     said = s.said;
   }
 
-  pub stays_noted : {left : Left} (call : WorldCall) → Stays left (with_world old a)
-      → new.asked ≡ with_call call old.asked → Stays (with_asked call left) (with_world new a)
+  pub stays_noted : {left : StepState} (call : WorldCall) → IsStateOf left (with_world old a)
+      → new.asked ≡ with_call call old.asked → IsStateOf (with_asked call left) (with_world new a)
   stays_noted call s made = stays_asked _ s (made ∙ ap (with_call call) s.asked)
 
   -- memory lacked before the call
-  pub unasked : {A : Type 0} {next : Steps A} {left : Left} → Stays left (with_world old a)
-      → new.asked ≡ old.asked → Goes amid left next left
-      → Reaches next left (with_world new a) amid
+  pub unasked : {A : Type 0} {next : Steps A} {left : StepState} → IsStateOf left (with_world old a)
+      → new.asked ≡ old.asked → RunTo amid left next left
+      → StepsEndAt next left (with_world new a) amid
   unasked {left = left} s made goes = reach left goes (stays_asked left.asked s (made ∙ s.asked))
 
   -- what was read of a file
-  passes : {name : List ℕ} {left : Left} (read : Entries) → Stays left (with_world old a)
+  passes : {name : List ℕ} {left : StepState} (read : Entries) → IsStateOf left (with_world old a)
       → IsFileRead old name read → new.asked ≡ with_call (File name) old.asked
-      → Reaches (configuration name) left (with_world new a) (by_point read)
+      → StepsEndAt (configuration name) left (with_world new a) (by_point read)
   passes {name = name} {left} read s (file, agrees, is) made =
-      let now : Left = with_asked (File name) left in
+      let now : StepState = with_asked (File name) left in
       reach now (inr (inr (
         file,
         subst (λ t. Agrees (t name) file) s.file agrees,
@@ -465,14 +465,14 @@ module _ {old new : Outside} (files : KeepsFiles old new) (objects : KeepsObject
       )))
       (stays_noted (File name) s made)
 
-  not_loaded : (name : List ℕ) {left : Left} → Stays left (with_world old a)
+  not_loaded : (name : List ℕ) {left : StepState} → IsStateOf left (with_world old a)
       → new.asked ≡ with_call (File name) old.asked
-      → Reaches (configuration name) left (with_world new a) (awaits (loading name))
+      → StepsEndAt (configuration name) left (with_world new a) (awaits (loading name))
   not_loaded name {left} s made =
       reach (with_asked (File name) left) (inr (inl (refl, refl))) (stays_noted (File name) s made)
 
-  configures_at : (name : List ℕ) {left : Left} (result : Result Settings Stop)
-      → Stays left (with_world old a) → Configures old new name result
+  configures_at : (name : List ℕ) {left : StepState} (result : Result Settings Stop)
+      → IsStateOf left (with_world old a) → Configures old new name result
       → AskedFor old.asked new.asked (File name) result
       → Ends (configuration name) left (with_world old a) (with_world new a) (rows_in result)
   configures_at name (Ok settings) s c q = passes _ s c q
@@ -491,12 +491,12 @@ module _ {old new : Outside} (files : KeepsFiles old new) (objects : KeepsObject
   -- what was asked for wasn't handed out
   module _ (asked : WorldCall) {A : Type 0} (step : Steps A) (call : Call)
       (object_is : object_of call ≡ Files) (may : MayLack call)
-      (faults_are : (b : Around) → count_at call b ≡ file_faults b.world)
-      (awaited : (left : Left) → Goes (awaits call) (with_asked asked left) step left)
-      (lacked : (left : Left) → Goes amid left step left) where
-    not_lent_at : {left : Left} → Stays left (with_world old a)
+      (faults_are : (b : Environment) → count_at call b ≡ file_faults b.world)
+      (awaited : (left : StepState) → RunTo (awaits call) (with_asked asked left) step left)
+      (lacked : (left : StepState) → RunTo amid left step left) where
+    not_lent_at : {left : StepState} → IsStateOf left (with_world old a)
         → new.asked ≡ with_call asked old.asked
-        → Reaches step left (with_world new a) (awaits call)
+        → StepsEndAt step left (with_world new a) (awaits call)
     not_lent_at {left} s made =
         reach (with_asked asked left) (awaited left) (stays_noted asked s made)
 
@@ -547,7 +547,7 @@ pub record IsSeen (call : WorldCall) (old new : Outside) : Type 0 where
   pub tapes : AreSeen old.tapes new.tapes
   pub links : AreSeen old.links new.links
 
-pub seen_home : {call : WorldCall} {old new : Outside} → IsSeen call old new → (a : Around)
+pub seen_home : {call : WorldCall} {old new : Outside} → IsSeen call old new → (a : Environment)
     → IsHome (with_world old a) (with_world new a)
 seen_home seen a = record {
   files = seen.files;
@@ -557,8 +557,8 @@ seen_home seen a = record {
   input = omega arith;
 }
 
-pub seen_stays : {call : WorldCall} {old new : Outside} → IsSeen call old new → (a : Around)
-    → (l : Left) → Stays l (with_world old a) → Stays (with_asked call l) (with_world new a)
+pub seen_stays : {call : WorldCall} {old new : Outside} → IsSeen call old new → (a : Environment)
+    → (l : StepState) → IsStateOf l (with_world old a) → IsStateOf (with_asked call l) (with_world new a)
 seen_stays {call} seen a l s = record {
   file = seen.files.file ∙ s.file;
   tapes = seen.tapes.told ∙ s.tapes;
@@ -571,9 +571,9 @@ seen_stays {call} seen a l s = record {
   said = s.said;
 }
 
-module _ {call : WorldCall} {old new : Outside} (seen : IsSeen call old new) (a : Around)
+module _ {call : WorldCall} {old new : Outside} (seen : IsSeen call old new) (a : Environment)
     {step : Steps (Unit {0})}
-    (goes : (left : Left) → Goes (gives tt) (with_asked call left) step left) where
+    (goes : (left : StepState) → RunTo (gives tt) (with_asked call left) step left) where
   pub borrowed : Does step (with_world old a) (with_world new a) (Ok tt)
   borrowed = record {
     home = seen_home seen a;
@@ -616,7 +616,7 @@ dice_back seat h =
 
 -- it is borrowed for what follows, and comes back
 pub lends_to : (seat : ℕ) {old out mid new : Outside} {given back : Option (List ℕ)}
-    {first count : ℕ} (a b : Around) {B : Type 0} {next : Steps B} {result : Result B Stop}
+    {first count : ℕ} (a b : Environment) {B : Type 0} {next : Steps B} {result : Result B Stop}
     → DiceLoan seat old out given first → DiceReturn seat mid new back count
     → Does next (with_lent_dice seat given first (with_world out a))
     (with_lent_dice seat back count (with_world mid b)) result
