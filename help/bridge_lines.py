@@ -7,6 +7,7 @@ import re
 
 ETCD = ("etcd-to-store", "store-to-etcd", "etcd-audit")
 BRIDGES = (*ETCD, "kms-bridge")
+RECOVER = ("recover",)
 READERS = ("etcd-to-store", "etcd-audit")
 OPENERS = ("etcd-to-store", "store-to-etcd")
 
@@ -14,24 +15,39 @@ UNOPENED = "docs/OPERATORS.md, 'A value that can't be opened': import without --
 ANEW = "remove the store and its map, and begin with etcd-to-store again"
 ASK = "`etcdctl endpoint health` asks with the same environment; https or http in ETCDCTL_ENDPOINTS, and the three certificates"
 RIGHTS = "where it lacks a user or a right: ETCDCTL_USER, and docs/OPERATORS.md, 'What you need'"
-PACKAGES = "sudo tools/install-checks, or your system's packages of these names (docs/OPERATORS.md, 'What you need')"
+PACKAGES = "install Debian's packages of these names, or your system's (docs/OPERATORS.md, 'What you need')"
+FIRST = "write one object through an API server, and count by etcd-audit: sealed, call again; plain, take the resource out of the entry"
 BRIDGE_WORDS = "`bridges/{} --help` shows its words"
 
 # Which programs write the line, its form, what it means, and what to do.
 FORMS = [
     # ---- etcd itself
+    (("store-to-etcd",), "the plugin * gave no answer within # seconds", "the program of the plugin {0} was asked, and said nothing for {1} seconds", "look at the plugin and its key service; nothing was written"),
+    (ETCD, "ETCDCTL_ENDPOINTS names no endpoint", "ETCDCTL_ENDPOINTS is set, and nothing but commas stands in it", "name one, or unset it: without it 127.0.0.1:2379 is asked"),
+    (ETCD, "ETCDCTL_* is set, and ETCDCTL_* isn't: a client's certificate and its key go together", "ETCDCTL_{0} alone is no certificate of a client", "set ETCDCTL_{1} too"),
+    (ETCD, "ETCDCTL_CACERT names no certificate in PEM", "what ETCDCTL_CACERT names isn't etcd's authority", "name its certificate, as /etc/kubernetes/pki/etcd/ca.crt"),
+    (ETCD, "ETCDCTL_CERT and ETCDCTL_KEY are no certificate in PEM with its key, or don't go together", "the two files that ETCDCTL_CERT and ETCDCTL_KEY name can't be used as a client's certificate", "name a certificate and its own key, without a password: server.crt and server.key of /etc/kubernetes/pki/etcd"),
+    (ETCD, "etcd tells more than # keys", "etcd goes on without an end", "is something between the bridge and etcd? ask the endpoint itself"),
     (ETCD, "etcd gives no answer: *: *", "no endpoint of ETCDCTL_ENDPOINTS gave an answer ({0})", ASK),
     (ETCD, "etcd refuses: *: *has been compacted*", "what was to be read was compacted away meanwhile", "begin again; a larger --page, or --only, reads quicker"),
     (ETCD, "etcd refuses: *: *", "etcd answers, and refuses ({0}: {1})", RIGHTS),
-    (ETCD, "etcd refuses a transaction though all its revisions hold", "etcd answers what can't be", "is something between the bridge and etcd? ask the endpoint itself"),
+    (ETCD, "etcd refuses a transaction though all that it compares holds", "etcd answers what can't be", "is something between the bridge and etcd? ask the endpoint itself"),
     (ETCD, "* gave no answer in # seconds", "{0} was called for etcd, and didn't end within {1} seconds", ASK),
     (ETCD, "* ended with #: *permission denied*", "etcd answers, and refuses: the user lacks the right", RIGHTS),
     (ETCD, "* ended with #: *", "{0} was called for etcd, and failed: {2}", ASK),
     (ETCD, "the endpoints are of several clusters, * and *", "ETCDCTL_ENDPOINTS names etcds of two clusters", "name those of one cluster alone"),
+    (ETCD, "* names no endpoint that answers: *", "{0} was asked which cluster each endpoint is of, and none answers: {1}", ASK),
+    (ETCD, "etcd's answer to a transaction doesn't tell what stands there", "etcd answers what can't be", "is something between the bridge and etcd? ask the endpoint itself"),
+    (ETCD, "etcd tells the key * where it can't be: each comes once, in its order", "etcd answers what can't be: the key {0} a second time, or one that wasn't asked for", "is something between the bridge and etcd? ask the endpoint itself"),
+    (ETCD, "etcd tells that there is more, and tells no key", "etcd answers what can't be", "is something between the bridge and etcd? ask the endpoint itself"),
+    (ETCD, "standard output is closed, so nothing could be told; nothing was done", "the call has no standard output (`>&-`), and did nothing", "give it one; /dev/null is one"),
+    (ETCD, "standard output: *", "standard output took no more ({0}); what it should have got stands on standard error", "is its disk full, or did its reader leave, as `| head` does?"),
+    (ETCD, "memory lacked", "the system gave no more memory", "parts are smaller: --part, --only, a smaller --page"),
     (ETCD, "*, and there is no etcdctl", "etcd can be asked neither by gRPC ({0}) nor by etcdctl", PACKAGES),
     (ETCD, "etcdctl can't be asked for keys from one on that holds a NUL", "a key has a zero byte, and etcdctl takes no such word", "read by gRPC: install python3-grpcio"),
     (ETCD, "* writes no JSON of etcdctl", "what {0} holds or writes isn't JSON as `etcdctl -w json` writes it", "write the file by: etcdctl get --prefix /registry/ -w json"),
-    (ETCD, "the JSON has a key without its bytes, its value or its revision", "the JSON isn't what `etcdctl get -w json` writes", "write it by: etcdctl get --prefix /registry/ -w json"),
+    (READERS, "* has the key * twice", "{0} isn't what `etcdctl get -w json` writes: the key {1} stands there twice", "write it by: etcdctl get --prefix /registry/ -w json"),
+    (ETCD, "the JSON has a key without its bytes, its value or its revisions", "the JSON isn't what `etcdctl get -w json` writes", "write it by: etcdctl get --prefix /registry/ -w json"),
     (ETCD, "ETCDCTL_*: *: *", "the file that ETCDCTL_{0} names can't be read: {2}", "name a file that is there, and run as a user who may read it (root for /etc/kubernetes/pki/etcd)"),
     # ---- what is read
     (READERS, "no key stands below *: --prefix names the API server's --etcd-prefix", "nothing was read: no key stands below {0}", "give the API server's --etcd-prefix as --prefix; is it the right etcd? `etcdctl get --prefix / --keys-only --limit 5`"),
@@ -78,13 +94,24 @@ FORMS = [
     (("store-to-etcd",), "the plugin * unwraps nothing: *", "the plugin {0} refused to unwrap: {1}", "is the old key still enabled in the key service?"),
     (("store-to-etcd",), "the plugin * answers no *", "the program of the plugin {0} ended, or writes something else than replies", "ask it by hand: echo '{{\"call\":\"status\"}}' | PROGRAM"),
     (("store-to-etcd",), "the plugin *: *: *", "the program of the plugin {0} can't be started: {2}", "is {1} there, and executable?"),
+    (("store-to-etcd",), "*: * plain value* stay*, since nothing of it in etcd is sealed: do the API servers seal it at all?", "etcd has no sealed value of {0}, so nothing shows that the API servers seal it; where they don't, they can neither read nor list what was sealed by others", FIRST),
+    (("store-to-etcd",), "*: write one object of it through an API server, and look by etcd-audit", "an API server seals {0} if what it writes now is sealed", FIRST),
+    (("store-to-etcd",), "--first RESOURCE seals the plain values of a resource all the same", "a resource named so is sealed though nothing shows that the API servers seal it", FIRST),
+    (("store-to-etcd",), "unknown *", "the value of {0} was sent to etcd, and no answer says whether it was written", "call it again with the same words: what was written counts as already"),
     (("store-to-etcd",), "changed *", "somebody wrote or deleted {0} since the import; it stays as it is", "begin with etcd-to-store again, under another name: a second round takes it"),
     (("store-to-etcd",), "refused * *", "etcd doesn't take the value of {0}: {1}", "it is too large for etcd's --max-request-bytes; it stays as it is, sealed by the old key"),
     # ---- etcd-audit
     (("etcd-audit",), "still *: #", "{1} values of {0} are stored, so its key may not go", "seal them anew; docs/OPERATORS.md, 'When an old key may go'"),
+    (("etcd-audit",), "* sealed # of these values: one key is for # writes, exchange it", "{1} values in etcd are sealed by {0}, whose nonces are random: two values under one nonce give both away", "exchange the key: docs/OPERATORS.md, 'Which provider'; another name for the same secret is the same key"),
     # ---- kms-bridge
+    (("kms-bridge",), "standard output is closed, so nothing could be told; nothing was done", "the call has no standard output (`>&-`), and did nothing", "give it one; /dev/null is one"),
+    (("kms-bridge",), "standard output: *", "standard output took no more ({0})", "is its disk full, or is kmsrest gone that reads the answers?"),
+    (("kms-bridge",), "standard input: *", "standard input can't be read ({0})", "is it a file or a pipe?"),
     (("kms-bridge",), "request: *", "kmsrest's line couldn't be read as a request: {0}", "does something else write to the bridge's input?"),
     (("kms-bridge",), "*: the annotation key * is no domain name", "the plugin adds an annotation that the API server refuses", "mend the plugin: each key is a domain name of two labels or more"),
+    (("kms-bridge",), "no plugin listens at *: Permission denied", "the socket {0} is there, and this user may not open it", "run as its owner, or as root"),
+    (("kms-bridge",), "no plugin listens at *: Connection refused", "the socket {0} is there, and no process listens at it", "is the plugin running? it leaves its socket behind where it was killed"),
+    (("kms-bridge",), "no plugin listens at *: *", "no plugin can be asked at the socket {0}: {1}", "does the plugin run, and is --endpoint the path of its socket?"),
     (("kms-bridge",), "*: UNAVAILABLE: *", "at `{0}` the plugin's socket gave no answer: {1}", "does the plugin run, and is --endpoint its socket, with the right to open it?"),
     (("kms-bridge",), "*: DEADLINE_EXCEEDED: *", "at `{0}` the plugin gave no answer in time", "look at the plugin and its key service; --timeout gives it longer"),
     (("kms-bridge",), "decrypt: @: *", "the plugin refused to unwrap ({0}): {1}", "is the old key still enabled in the key service?"),
@@ -98,6 +125,7 @@ FORMS = [
     (("kms-bridge",), "the answer has more than # bytes", "the plugin's answer is longer than a line may be", "look at the plugin"),
     (("kms-bridge",), "a request has more than # bytes", "what came in is no line of kmsrest", "does something else write to the bridge's input?"),
     (("kms-bridge",), "no module * here *", "/usr/bin/python3 has no module {0}", PACKAGES),
+    (("kms-bridge",), "*: *, and could run another program as you: take a folder of your own, `mkdir -m 700 DIR`", "programs for {0} would stand where somebody else may change them: {1}", "mkdir -m 700 DIR, in a folder that nobody else writes, and --into DIR"),
     (("kms-bridge",), "*: the plugin *", "the configuration {0} has a plugin that can't be asked: the plugin {1}", "mend that entry"),
     (("kms-bridge",), "*: of the plugin * the name, the endpoint or the timeout is no text", "the entry of the plugin {1} in {0} isn't whole", "write name, endpoint and timeout as texts"),
     (("kms-bridge",), "*: * is there, with other words; remove it first", "a program {1} is there, of another endpoint or timeout", "rm {1}, and write it again"),
@@ -105,6 +133,16 @@ FORMS = [
     (("kms-bridge",), "*: it isn't UTF-8", "{0} is no text", "is it another file?"),
     (("kms-bridge",), "--plugin=*=*", "the word that gives kmsrest the program of the plugin {0}", "add it to kmsrest's words"),
     (BRIDGES, "error: *", "the words mean no call: {0}", BRIDGE_WORDS),
+    # ---- recover
+    (RECOVER, "kmsrest: recover: * is whole, with # rows: there is nothing to recover", "{0} keeps its format, and has {1} rows", "nothing; where rows should be there that aren't, take a copy, or etcd"),
+    (RECOVER, "kmsrest: recover: * is there already, and nothing is written over", "a file {0} is there", "take another name"),
+    (RECOVER, "kmsrest: recover: * is open in another call: wait for that one", "another kmsrest has {0} open", "wait for that one"),
+    (RECOVER, "kmsrest: recover: * has no row before its breach: *", "{0} has nothing that could be kept ({1})", "is it another file? else take a copy"),
+    (RECOVER, "kmsrest: recover: * is made, and standard output took no line of it", "{0} has the rows before the breach, and what stood behind it wasn't told", "remove {0}, and call it again"),
+    (RECOVER, "kmsrest: recover: *", "{0}", "name a store, and a file that isn't there"),
+    (RECOVER, "breach # #", "the store breaks its format at byte {1}, by text {0}", ""),
+    (RECOVER, "behind # * deleted *, kept *", "behind the breach {1} was deleted by row {0} ({2}); the new store keeps revision {3} of it", "where that counts, delete it anew"),
+    (RECOVER, "behind # * * * *, kept *", "behind the breach stands row {0} of {1}, of {2} by {3} ({4}); the new store keeps revision {5} of it", "where that counts, put the object anew: out of a copy, or by whoever wrote it"),
     # ---- a file or a stream, in the system's words
     (BRIDGES, "*: $", "{0}: the system says: {1}", "is it there, and has this user the right?"),
     (("kms-bridge",), "$", "a stream failed, and the system says: {0}", "is kmsrest still there to read the answers?"),
@@ -123,6 +161,9 @@ COUNTS = {
         "already": ("{0} values stood in etcd as the store has them: an earlier run of this wrote them", ""),
         "changed": ("{0} objects were written or deleted by somebody since the import, and stay as they are", "with more than 0 a second round takes them: begin with etcd-to-store again, under another name"),
         "refused": ("{0} values were too large for etcd, and stay as they are", "with more than 0 their key may not go: docs/OPERATORS.md, 'When an old key may go'"),
+        "left-plain": ("{0} values stay in the clear: nothing shows that the API servers seal their resource", FIRST),
+        "unknown": ("of {0} values nobody knows whether they were written: they were sent, and etcd gave no answer", "call it again with the same words: what was written counts as already"),
+        "unsent": ("{0} values weren't sent, since the call was stopped before", "call it again with the same words"),
         "same": ("{0} values are as they were imported: the rewrite left them so", "fresh ones need nothing; of `left` ones `kmsrest verify` says why"),
     },
     "rewrite": {
@@ -135,6 +176,11 @@ COUNTS = {
         "fresh": ("{0} objects are read, and sealed as the configuration would write them today", ""),
         "stale": ("{0} objects are read, and another key or provider would write them today", "with more than 0: `kmsrest rewrite` seals them anew"),
         "refused": ("{0} objects can't be read by this configuration", "with more than 0 the lines before name them, each with why; give the configuration the key that wrote them"),
+    },
+    "recover": {
+        "behind": ("{0} paths have a row behind the breach, as far as that can be read", "with more than 0 the lines before name each with what the new store keeps of it"),
+        "unread": ("{0} bytes behind the breach are no whole row", ""),
+        "recovered": ("{0} rows stood before the breach, and are the new store's", "`verify` of the new store: rows have no checksum"),
     },
     "put": {"revision": ("what was put is row {0} of the store", "")},
     "migrate": {"migrated": ("{0} rows were copied", "")},

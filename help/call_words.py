@@ -1,13 +1,15 @@
 """The words of a call that wrote a line: which files they name, and why they mean no command."""
 
 import difflib
+import os
 import re
-from pathlib import Path
 
+import plain_files
 from commands import COMMANDS, OPTIONS, REPEATED
-from reference import configuration, words as grammar
+from reference import configuration, masking, words as grammar
 
 BY_NAME = {command.name: command for command in COMMANDS}
+SHOWN = ("wide", "turned")
 # The commands that only read the store of --store.
 READ_STORE = ("list", "get", "verify", "judge", "migrate")
 
@@ -34,6 +36,8 @@ class Call:
     def configurations(self):
         """The names of the configurations with what each is to the call."""
         found = [(name, "--config") for name in self.options.get("config", ())]
+        if self.command == "store-to-etcd":
+            found += [(name, "--verify") for name in self.options.get("verify", ())]
         if self.command == "plan":
             found += [(name, f"--{option}") for option in ("from", "to") for name in self.options.get(option, ())]
         found += [(name, f"--replica, API server {number}") for number, name in enumerate(self.options.get("replica", ()))]
@@ -61,12 +65,8 @@ class Call:
 
 def fleet_configurations(name):
     """What a fleet file names, each once."""
-    try:
-        text = Path(name).read_text(encoding="utf-8", errors="replace")
-    except OSError:
-        return []
     found = {}
-    for number, line in enumerate(text.split("\n"), 1):
+    for number, line in enumerate(plain_files.text_of(name).split("\n"), 1):
         parts = line.split()
         if len(parts) == 3 and parts[0] in ("replica", "reload", "join") and (parts[2] != "-" or parts[0] != "replica"):
             found.setdefault(parts[2], f"line {number} of {name}")
@@ -90,9 +90,9 @@ def usage_faults(call):
         word = rest.pop(0)
         name, equals, value = word[2:].partition("=")
         if not word.startswith("--"):
-            return [(f"`{word}` is no option and no option's value", "put -- before an option's name, and quotes around a value with spaces")]
+            return [stray_fault(word, [option for option in own if option not in seen or option in REPEATED])]
         if name not in own:
-            why = f"{call.command} has no option --{name}" if name in OPTIONS else f"there is no option --{name}"
+            why = f"{call.command} has no option --{name}" if name in OPTIONS else f"there is no option --{masking.bare(name)}"
             return [(why + near(name, own), f"kmsrest help {call.command} lists its options")]
         if not equals and not rest:
             return [(f"--{name} has no value", f"write --{name} {OPTIONS[name][0]}")]
@@ -108,18 +108,31 @@ def usage_faults(call):
     return faults
 
 
+def stray_fault(word, free):
+    """Why a word is none that stands alone: an option without its dashes, a file without its option, or a slip."""
+    option = next(iter(difflib.get_close_matches(word.lstrip("-"), free, 1, 0.6)), None)
+    if option:
+        return f"`{word}` is no option and no option's value; did you mean --{option}?", "put -- before an option's name"
+    for_file = next((option for option in free if OPTIONS[option][0] == "FILE"), None)
+    if for_file and os.path.isfile(word):
+        return f"`{word}` is a file, and no option stands before it", f"write --{for_file} {word}"
+    # (it may be anything that was pasted)
+    return f"{masking.scalar(word)} is no option and no option's value", "put -- before an option's name, and quotes around a value with spaces"
+
+
 def value_faults(call, name, value):
     """What is wrong with an option's value."""
     if name == "resource" and not grammar.is_resource(value.encode()):
-        return [(f"--resource `{value}` is no resource", "small letters, digits, - and dots: secrets, deployments.apps")]
+        meant = "" if "/" in value else near(value.lower(), masking.RESOURCES)
+        return [(f"--resource {masking.name(value)} is no resource{meant}", "small letters, digits, - and dots: secrets, deployments.apps")]
     if name == "path" and not grammar.is_path(value.encode()) and not (value == "" and call.command in ("encrypt", "decrypt")):
-        return [(f"--path `{value}` is no path", "1 to 1,024 bytes without spaces and beyond no ASCII, such as /registry/secrets/default/db")]
+        return [(f"--path {masking.name(value)} is no path", "1 to 1,024 bytes without spaces and beyond no ASCII, such as /registry/secrets/default/db")]
     if name == "plugin":
         own, equals, program = value.partition("=")
         if not equals or not program:
-            return [(f"--plugin `{value}` names no program", "write --plugin NAME=PROGRAM")]
+            return [(f"--plugin {masking.name(value)} names no program", "write --plugin NAME=PROGRAM; kms-bridge --into writes a program for each plugin of a configuration")]
         if not grammar.is_name(own.encode()):
-            return [(f"--plugin: `{own}` is no name", "1 to 253 bytes from ! to ~, none of them a colon")]
+            return [(f"--plugin: {masking.name(own)} is no name", "1 to 253 bytes from ! to ~, none of them a colon")]
         if [name for name, _ in call.plugins()].count(own) > 1:
             return [(f"--plugin gives `{own}` two programs", "delete one of the two")]
     if name == "reload":
@@ -129,8 +142,12 @@ def value_faults(call, name, value):
             return [(f"--reload `{value}` has no file", "write --reload N=FILE")]
         if not re.fullmatch(r"0|[1-9][0-9]*", digits) or int(digits) > most:
             return [(f"--reload `{digits}` is no API server of this call", f"they are numbered by --replica, from 0 to {most}")]
-    if name in ("seed", "size", "limit", "since") and not re.fullmatch(r"0|[1-9][0-9]*", value):
+    if name == "show" and value not in SHOWN:
+        return [(f"--show `{value}` is none of {' and '.join(SHOWN)}{near(value, SHOWN)}", "wide: the file that reads old and new; turned: the one that writes as the new one; without --show the moves")]
+    if name in ("seed", "size", "limit", "since", "replicas") and not re.fullmatch(r"0|[1-9][0-9]*", value):
         return [(f"--{name} `{value}` is no number", "decimal digits, without a sign or a leading zero")]
+    if name == "replicas" and value == "0":
+        return [("--replicas 0 is no rollout", "how many API servers there are, 1 to 16")]
     if name == "size" and value == "0":
         return [("--size 0 is no load", "at least 1")]
     if name == "limit" and value == "0":
@@ -145,7 +162,7 @@ def value_faults(call, name, value):
 def entries_of(name):
     """The entries of a configuration that keeps the rules, or None."""
     try:
-        return configuration.read(Path(name).read_bytes())
+        return configuration.read(plain_files.content(name))
     except (OSError, configuration.Breach):
         return None
 

@@ -4,6 +4,7 @@
 OPTIONS = {
     "config": ("FILE", "the EncryptionConfiguration, in YAML or JSON, as the API server has it"),
     "file": ("FILE", "the fleet file: replicas, and what workers do at them"),
+    "files": ("FOLDER", "write the three configurations of the moves here besides, as API servers are given them; ./kmsrest does it"),
     "from": ("FILE", "the configuration that all API servers have"),
     "limit": ("NUMBER", "how many objects a page has at most, 1 to 10000"),
     "path": ("PATH", "the object's key in etcd, such as /registry/secrets/default/db; aesgcm and kms bind a value to it"),
@@ -12,7 +13,7 @@ OPTIONS = {
     "replica": ("FILE", "the configuration that an API server has now; once for each, the first is number 0; at most 16"),
     "replicas": ("NUMBER", "how many API servers there are, 1 to 16"),
     "resource": ("RESOURCE", "the resource in the plural, with its group: secrets, deployments.apps"),
-    "seed": ("NUMBER", "which load is made, at most 18446744073709551615"),
+    "seed": ("NUMBER", "which load is made, at most 18446744073709551615; with another size it uses nonces again"),
     "since": ("REVISION", "print the changes above this revision in place of the objects"),
     "size": ("NUMBER", "how many objects each of the four workers writes, 1 to 10000"),
     "show": ("WORD", "wide or turned: print that configuration in place of the moves"),
@@ -21,37 +22,83 @@ OPTIONS = {
 }
 
 REPEATED = ("plugin", "replica")
+# Options that the front end does, and the program itself hasn't.
+OF_FRONT_END = {"plan": ("files",)}
 
-# What the script at the top answers by itself, before any build.
+# The words of the script at the top; of these `--build`, `--draft` and `demo` alone build anything.
 OWN_WORDS = {
-    "help [COMMAND]": "this page, or a command's",
-    "--help": "this page",
+    "help [COMMAND]": "this page, or a command's; so do no words, -h, --help, and COMMAND --help",
     "--version": "the version",
-    "--build [WORD..]": "prove and build the program where that is due, then do the words",
     "explain 'LINE' [WORD..]": "what a line that kmsrest or a bridge wrote means for the call with these words, and what to do",
+    "vet BASE NEW [--OPTION VALUE]..": "may this change of a configuration be merged? For a pull request, without a cluster",
+    "demo [--etcd]": "exchange a key in a folder of its own, each step told; where nothing is built, by a draft",
+    "--draft [WORD..]": "build an unproved program in some three minutes where that is due, then do the words by it",
+    "--build [WORD..]": "prove and build the program where that is due, then do the words",
+    "recover STORE NEW": "the rows in front of a store's breach as a new store, and path by path what stood behind it",
 }
 
 
 # A page for each of them, by its name without dashes: a usage line, what it says, and an example.
 OWN_PAGES = {
-    "help": ("kmsrest help [COMMAND]", "The commands, or one of them with its options, what it reads, writes and answers, and an example.", ("./kmsrest help judge",)),
+    "help": (
+        "kmsrest help [COMMAND]",
+        "The commands, or one of them with its options, what it reads, writes and answers, and an example. No words, -h and --help show the commands, "
+        "COMMAND --help and COMMAND -h show the page of one. None of them builds anything.",
+        ("./kmsrest help judge", "./kmsrest judge --help"),
+    ),
     "version": ("kmsrest --version", "The version, as the file VERSION has it.", ("./kmsrest --version",)),
+    "demo": (
+        "kmsrest demo [--etcd]",
+        "Exchanges a key at two API servers, in a folder of its own that is removed behind it: objects are stored, a wrong reload is refused, the moves of a plan "
+        "are judged and made, all is sealed anew and verified. Each command stands there with what it printed and what that means. With --etcd the objects lie "
+        "in an etcd of its own on loopback, and the bridges take them to a store and back; `etcd` and `etcdctl` are on the path for that. Where nothing is built it "
+        "builds a draft first, as --draft does, and says so.",
+        ("./kmsrest demo",),
+    ),
+    "draft": (
+        "kmsrest --draft [WORD..]",
+        "Builds a draft where none is there of the sources as they stand, and then does the words by it. A draft is the same program without its proofs. "
+        "Nothing is proved of it, its run-time checks stay in, and it is slower. It takes some three minutes of one processor. A draft lies in "
+        "out/draft, and no other call takes it for the program: with KMSREST_DRAFT=1 calls without --draft take one that is there. On a terminal each call of a "
+        "draft says `draft: not proved` on standard error. With the name of another program's crate as first word, as kmsplug or test_judge, that one is drafted and called. It needs `rt` of the kit on the "
+        "path (README.md, 'Build').",
+        ("./kmsrest --draft check --config examples/identity.yaml", "./kmsrest --draft kmsplug <crates/kmsplug/stdin"),
+    ),
     "build": (
         "kmsrest --build [WORD..]",
         "Proves and builds the program where that is due, which takes some 40 minutes on four processors where nothing is proved yet, "
-        "and then does the words. It needs `rt` of the kit on the path (README.md, 'Build'). Where the program is said to be older than its sources, "
-        "and only their times are newer, as behind a checkout or a copy: touch crates/kmsrest/out/kmsrest.",
+        "and then does the words. It needs `rt` of the kit on the path (README.md, 'Build'). Whether it is due is told by the contents of the sources, of "
+        "which their sums lie beside the program. Where the gate built it, times tell until the first call, which leaves these sums.",
         ("./kmsrest --build check --config examples/identity.yaml",),
     ),
     "explain": (
         "kmsrest explain 'LINE' [WORD..]",
         "What a line means that kmsrest or a bridge printed, on either stream, and what to do. With the words of that call behind it, it looks at the "
-        "files that they name: the line in a configuration, the row in a store, the file of an API server. It only reads, prints no secret, and "
-        "ends with 2 where it doesn't know the line. A bridge's call begins with the bridge's name.",
+        "files that they name: the line in a configuration, the row in a store, the file of an API server. It only reads, and shows of a file its places, "
+        "names and known words, and no secret. It ends with 2 where it doesn't know the line. A bridge's call begins with the bridge's name. "
+        "On a terminal a call that failed is explained so by itself, below its own line; KMSREST_EXPLAIN=1 does it everywhere, KMSREST_EXPLAIN=0 nowhere.",
         (
             "./kmsrest explain 'drops-writer 1 secrets aescbc:key1' judge --replica new.yaml --replica both.yaml",
             "./kmsrest explain 'changed 2' bridges/store-to-etcd",
         ),
+    ),
+    "vet": (
+        "kmsrest vet BASE NEW [--replicas N] [--kubernetes 1.NN] [--output text|json|github] [--strict] [--allow CODE].. [--as FILE]",
+        "May this change of an EncryptionConfiguration be merged, from BASE, which all API servers have, to NEW? It judges the reloads one after another for "
+        "N API servers (3), over a store of which nothing is known, and where one is refused it shows the steps in between. It names what an API server of that version "
+        "refuses in NEW, or reads otherwise than `check`, and what is allowed and dangerous. It needs no build, no cluster and no etcd, and shows no secret. "
+        "An empty BASE, as /dev/null, stands for API servers without a configuration. --allow leaves out the warnings of a code, --as is the name to print for NEW. "
+        "It ends with 0: go on; 1: refused; 2: the words; 3: a warning with --strict. FORMATS, 'What vet finds', has the codes. bridges/kmsrest-vet is the same.",
+        ("cd examples/rotation", "../../kmsrest vet old.yaml new.yaml"),
+    ),
+    "recover": (
+        "kmsrest recover STORE NEW",
+        "For a store that breaks its format (text 42, 43 or 46), as behind a loss of power, and that has no other copy; one out of etcd is made anew. "
+        "It copies the rows in front of the breach into the store NEW, of its owner alone, which must not be there, and leaves STORE as it is. "
+        "It tells the breach, and of each path that has a row behind it that last row: its revision, resource and provider, whether it is whole or cut, "
+        "and the revision that NEW keeps of the path. It shows no values. Rows have no checksum: one whose inside was lost may look whole, so ask verify of NEW. "
+        "It ends with 0; 1 where the store is whole, and nothing is written; 2 the words; 3 where there is no row to recover; 4 where a file fails.",
+        ("./kmsrest recover store recovered",),
     ),
 }
 
@@ -187,11 +234,13 @@ COMMANDS = [
         "plan",
         "the moves that bring all API servers from one configuration to another",
         ("from", "to", "replicas"),
-        ("show",),
+        ("show", "files"),
         reads="both configurations",
-        writes="nothing",
-        answers="`reload R wide` for each API server, `reload R turned` for each, `rewrite`, `reload R to` for each; with --show a configuration",
-        notes="wide reads both and writes as --from does; turned reads both and writes as --to does. A rewrite must leave nothing.",
+        writes="nothing; with --files 1-wide.yaml, 2-turned.yaml and 3-to.yaml, of their owner alone, and over nothing that is there",
+        answers="`reload R wide` for each API server, `reload R turned` for each, `rewrite`, `reload R to` for each; with --show a configuration; with --files the names of the files behind",
+        notes="wide reads both and writes as --from does; turned reads both and writes as --to does. A rewrite must leave nothing. "
+        "The files of --files have each KMS plugin's endpoint, timeout and cachesize as the two given ones have them, and say on top which step each is; "
+        "a plugin that the two give different ones is refused. What --show prints has `unix:///NAME` in place of an endpoint.",
         example=(
             "cd examples/rotation",
             "../../kmsrest plan --from old.yaml --to last.yaml --replicas 2",
@@ -255,6 +304,8 @@ COMMANDS = [
         reads="the store",
         writes="the load's rows to the store, which is made where it is absent",
         answers="how many puts and gets were done, and a digest of what was read",
+        notes="Keys and nonces are drawn from the seed, so that a load can be made again. One seed with another size uses a key's nonces again, "
+        "for other data: a load's keys seal nothing else, and its stores are no secret.",
         example=("./kmsrest gen --seed 1 --size 2 --store /tmp/load-store", "gen 1 2", "puts 8", "gets 8"),
     ),
 ]
@@ -267,5 +318,5 @@ STATUSES = {
     4: "a file, a stream, the store or a plugin failed",
     5: "want of memory",
     6: "a limit is passed",
-    70: "the script: the program isn't built, or is older than its sources, and wasn't built now",
+    70: "the script: the program isn't built, or is older than its sources, or couldn't be built",
 }

@@ -4,7 +4,7 @@ import base64
 import json
 import re
 
-from reference import configuration, yaml_profile
+from reference import configuration, masking, yaml_profile
 from reference.configuration import Breach
 from trees import placed
 
@@ -60,18 +60,17 @@ def at(tree, path):
     return tree
 
 
+def is_slip_of(key, name):
+    """Whether a key is that one but for its case, a blank or a slip, and is no other one."""
+    return key.strip().lower() == name.lower() or (key not in masking.MEMBERS and masking.near(key) == name)
+
+
 def kind_of(node):
     """What stands at a place, in words."""
     if node is None:
         return "nothing"
     names = {str: "a text", bool: "a truth value", int: "a number", float: "a number", list: "a list", dict: "a mapping"}
-    return names[type(node)]
-
-
-def shown(text, most=60):
-    """A text of the file for people."""
-    text = "".join(mark if mark.isprintable() else "?" for mark in str(text))
-    return f"`{text}`" if len(text) <= most else f"`{text[:most]}`.."
+    return next(name for kind, name in names.items() if isinstance(node, kind))
 
 
 # ---- one file
@@ -85,7 +84,7 @@ def look(data):
     try:
         tree = configuration.read_tree(data)
     except Breach as no:
-        return json_finding(data, no) if no.code == 20 else yaml_finding(data, no)
+        return other_file(data, no) or (json_finding(data, no) if no.code == 20 else yaml_finding(data, no))
     walk = Walked()
     try:
         walk.entries(tree)
@@ -100,6 +99,30 @@ def answer_of(no):
     return f"text {no.code} {no.first} {no.second}"
 
 
+# What begins otherwise than a configuration, what that is, and what to do.
+OTHERS = (
+    (b"KRSTORE", "it is a store of kmsrest, not a configuration", "--config names the EncryptionConfiguration; a store is for --store"),
+    (b"fleet 1", "it is a fleet file, not a configuration", "--config names the EncryptionConfiguration; a fleet file is for --file of fleet and watch"),
+    (b"k8s:enc:", "it is a stored value, not a configuration", "a value goes to the standard input of decrypt or inspect"),
+    (b"-----BEGIN", "it is a certificate or a key in PEM, not a configuration", "name the EncryptionConfiguration"),
+    (b"SQLite format", "it is a database, not a configuration", "name the EncryptionConfiguration"),
+    (b"\x1f\x8b", "it is packed by gzip", "gunzip it first"),
+    (b"\xff\xfe", "it is in UTF-16, as Windows writes it", "save it as UTF-8: iconv -f UTF-16 -t UTF-8"),
+    (b"\xfe\xff", "it is in UTF-16, as Windows writes it", "save it as UTF-8: iconv -f UTF-16 -t UTF-8"),
+    (b"\xef\xbb\xbf", "a byte order mark stands before the first line", "save it as UTF-8 without one: sed -i '1s/^\\xEF\\xBB\\xBF//' FILE"),
+)
+
+
+def other_file(data, no):
+    """What a file is that can't be a configuration, as its first bytes tell."""
+    for magic, found, do in OTHERS:
+        if data.startswith(magic):
+            return Finding(answer_of(no), 1, "the first bytes", found, do)
+    if b"\0" in data[:4096]:
+        return Finding(answer_of(no), 0, "the whole file", "it has zero bytes, as no text has", "is it another file, or in UTF-16? a configuration is text in UTF-8")
+    return None
+
+
 def json_finding(data, no):
     do = "write JSON by the standard: keys and texts in double quotes, no comment, no comma behind the last part"
     try:
@@ -109,7 +132,7 @@ def json_finding(data, no):
         if text[error.pos : error.pos + 1] in ("]", "}") and text[: error.pos].rstrip().endswith(","):
             error.msg = "a comma stands behind the last part"
         line = text.split("\n")[error.lineno - 1]
-        return Finding(answer_of(no), error.lineno, f"column {error.colno}", f"{error.msg}, in {shown(line.strip())}", do)
+        return Finding(answer_of(no), error.lineno, f"column {error.colno}", f"{error.msg}, in {masking.line(line)}", do)
     except UnicodeDecodeError as error:
         return Finding(answer_of(no), data.count(b"\n", 0, error.start) + 1, f"byte {error.start}", "bytes that aren't UTF-8", "save the file as UTF-8")
     except RecursionError:
@@ -127,7 +150,8 @@ OUTSIDE = (
     (r"^ *\t", "a tab among the leading blanks", "indent by spaces"),
     (r"^(---|\.\.\.)", "a second document or a mark of one", "keep one document in the file; `---` may stand on the first line alone"),
     (r"^[^#]*:\t", "a tab behind a colon", "put a space behind the colon"),
-    (r"^[^#'\"]*(: +|- +)[&*][A-Za-z0-9]", "an anchor or an alias (& or *); a pattern such as *.apps wants quotes", "write the text out, or in quotes: '*.apps'"),
+    (r"^[^#'\"]*(: +|- +)&[A-Za-z0-9]", "an anchor (&), which is for an alias elsewhere", "take it away, and write out what stands at its alias"),
+    (r"^[^#'\"]*(: +|- +)\*[A-Za-z0-9]", "an alias (*), which stands for an anchor elsewhere", "write out what it stands for"),
     (r"^[^#'\"]*(: +|- +)\*", "a text that begins with * and has no quotes", "put it in quotes: '*.*'"),
     (r"^[^#'\"]*(: +|- +)!", "a tag (!)", "leave the tag out"),
     (r"^[^#'\"]*(: +|- +)[|>]", "a block scalar (| or >)", "write the text on the line of its key"),
@@ -143,22 +167,39 @@ OUTSIDE = (
 )
 
 
+NO_BLANK = re.compile(r"[ -]*[\"']?(" + "|".join(masking.MEMBERS + masking.KINDS) + r")[\"']?:[^ \t\r]")
+NO_COLON = re.compile(r"[ -]*(" + "|".join(masking.MEMBERS + masking.KINDS) + r")(?:[ \t][^:]*|[\r]?)$")
+ENTRY = "`resources:` and `providers:` of an entry begin in one column, behind the entry's `- `"
+KEY = "`name:` and `secret:` of a key begin in one column, and the first of the two has `- ` in front"
+DEEPER = "it stands deeper than the name of its provider, with its siblings in one column"
+# Where a member belongs, by its name.
+COLUMNS = {"resources": ENTRY, "providers": ENTRY, "keys": DEEPER, "name": KEY, "secret": KEY, "endpoint": DEEPER, "timeout": DEEPER, "cachesize": DEEPER}
+
+
 def yaml_finding(data, no):
     if no.second == 5:
         start = next((at for at in range(len(data)) if not is_utf8(data[: at + 4])), 0)
         return Finding(answer_of(no), data.count(b"\n", 0, start) + 1, "the text", "bytes that aren't UTF-8", "save the file as UTF-8")
     lines = data.decode().split("\n")
     line = lines[no.first - 1] if no.first <= len(lines) else ""
-    told = {"where": "in " + shown(line.strip() or line), "answer": answer_of(no), "line": no.first}
+    told = {"where": "in " + masking.line(line), "answer": answer_of(no), "line": no.first}
     kind = configuration.YAML_KINDS[no.second - 1]
+    if NO_BLANK.match(line):
+        return Finding(**told, found="no blank behind the colon, so it is no key", do="put a space behind the colon")
     if re.search(r"^[^#]*:\t", line):
         return Finding(**told, found="a tab behind a colon, so it is no key", do="put a space behind the colon")
+    if match := NO_COLON.match(line):
+        return Finding(**told, found=f"no colon behind `{match[1]}`", do=f"write `{match[1]}:`, and a space behind it")
+    if kind == "Indent" and not re.search(r":( |$)|^ *- ", line.rstrip("\r")):
+        return Finding(**told, found="a text that goes on from the line above", do="put the whole text on one line; `base64 -w 0` prints it so")
     if kind == "Indent":
-        return Finding(**told, found="its indentation goes on with nothing that stands above", do="line it up with its siblings: same column, spaces alone")
+        word = re.match(r"[ -]*([A-Za-z]*)", line)[1]
+        do = COLUMNS.get(word, "line it up with its siblings: same column, spaces alone")
+        return Finding(**told, found="its indentation matches no line above", do=do)
     if kind == "Deep":
         return Finding(**told, found="more than 16 levels of lists and mappings", do="is it a configuration? take levels out")
     if kind == "DuplicateKey":
-        return Finding(**told, found=f"the key {shown(line.split(':')[0].strip(' -'))} stands twice in its mapping", do="delete one of the two, or begin a new item by `- `")
+        return Finding(**told, found=f"the key {masking.scalar(line.split(':')[0].strip(' -'))} stands twice in its mapping", do="delete one of the two, or begin a new item by `- `")
     for pattern, found, do in OUTSIDE:
         if re.search(pattern, line.rstrip("\r")):
             return Finding(**told, found=found, do=do)
@@ -207,10 +248,10 @@ class Placing:
         if len(path) >= 7:
             key = at(self.tree, path[:7])
             name = key.get("name") if isinstance(key, dict) else None
-            told.append(f"key {shown(name)}" if isinstance(name, str) else f"key {path[6]}")
+            told.append(f"key {masking.scalar(name)}" if isinstance(name, str) else f"key {path[6]}")
         elif len(path) >= 5 and path[4] == "kms":
             name = at(self.tree, (*path[:5], "name"))
-            told += [f"name {shown(name)}"] if isinstance(name, str) else []
+            told += [f"name {masking.scalar(name)}"] if isinstance(name, str) else []
         return ", ".join(told) or "the whole file"
 
     def node(self, *more):
@@ -222,9 +263,9 @@ class Placing:
         is_there = path == () or (isinstance(parent, dict) and path[-1] in parent) or isinstance(parent, list)
         name = f"`{path[-1]}`" if path and isinstance(path[-1], str) else "what stands here"
         if not is_there:
-            near = [key for key in parent if key.strip().lower() == str(path[-1]).lower()] if isinstance(parent, dict) else []
-            found = f"{name} is missing" + (f"; there is {shown(near[0])}, which is another key" if near else "")
-            return path[:-1] if not near else (*path[:-1], near[0]), found, do
+            near = [key for key in parent if is_slip_of(key, str(path[-1]))] if isinstance(parent, dict) else []
+            found = f"{name} is missing" + (f"; there is {masking.scalar(near[0])}, which is another key" if near else "")
+            return ((*path[:-1], near[0]), found, f"write `{path[-1]}` in its place") if near else (path[:-1], found, do)
         return path, f"{name} is {kind_of(node)}, and {what} is wanted", do
 
     def begun(self):
@@ -259,7 +300,9 @@ class Placing:
         if kind == "identity":
             return self.wanted((*path[:4], kind), "`{}` or nothing", "write `- identity: {}`")
         if not isinstance(element[kind], dict):
-            return self.wanted((*path[:4], kind), "a mapping", "the members stand deeper than the provider's name")
+            beside = [name for name in element if name in ("keys", "apiVersion", "name", "endpoint")]
+            found = self.wanted((*path[:4], kind), "a mapping", "the members stand deeper than the provider's name")
+            return (found[0], f"{found[1]}: `{beside[0]}` stands beside it", f"indent `{beside[0]}:` and what belongs to it deeper than `{kind}`") if beside else found
         if kind == "kms":
             for name in ("apiVersion", "name", "endpoint"):
                 if not isinstance(element[kind].get(name), str):
@@ -277,7 +320,7 @@ class Placing:
     def whole(self, name, wanted):
         path, found, do = self.wanted((name,), f"`{wanted}`", f"write `{name}: {wanted}`")
         if isinstance(self.tree.get(name), str):
-            found = f"`{name}` is {shown(self.tree[name])}"
+            found = f"`{name}` is {masking.scalar(self.tree[name])}"
         return path, found, do
 
     def code_23(self):
@@ -295,7 +338,7 @@ class Placing:
         return (*path[:4], kind, "keys"), "`keys` is an empty list", f"put a key into it, with a secret of {NEW_SECRET}, or delete the provider"
 
     def code_26(self):
-        keys = ", ".join(map(shown, self.node())) or "nothing"
+        keys = ", ".join(map(masking.scalar, list(self.node())[:2])) or "nothing"
         return self.path, f"the provider is {keys}", "one of identity, aescbc, aesgcm and kms, spelled so; its members stand deeper than it"
 
     def code_27(self):
@@ -313,7 +356,7 @@ class Placing:
         return (*self.path, "apiVersion"), "`apiVersion` is `v1`", do
 
     def code_30(self):
-        return (*self.path, "apiVersion"), f"`apiVersion` is {shown(self.node('apiVersion'))}", "write `apiVersion: v2`"
+        return (*self.path, "apiVersion"), f"`apiVersion` is {masking.scalar(self.node('apiVersion'))}", "write `apiVersion: v2`"
 
     def code_31(self):
         name = self.node("name")
@@ -322,46 +365,50 @@ class Placing:
         elif len(name.encode()) > 253:
             found = f"the name has {len(name.encode())} bytes"
         elif ":" in name:
-            found = f"the name {shown(name)} has a colon, which ends a name in a stored value"
+            found = f"the name {masking.scalar(name)} has a colon, which ends a name in a stored value"
         else:
-            found = f"the name {shown(name)} has a space or a character beyond ASCII"
+            found = f"the name {masking.scalar(name)} has a space or a character beyond ASCII"
         return (*self.path, "name"), found, "a name has 1 to 253 bytes from ! to ~, none of them a colon"
 
     def code_32(self):
-        return (*self.path, "endpoint"), f"the endpoint is {shown(self.node('endpoint'))}", "write `endpoint: unix:///run/plugin.sock`"
+        return (*self.path, "endpoint"), f"the endpoint is {masking.endpoint(self.node('endpoint'))}", "write `endpoint: unix:///run/plugin.sock`"
 
     def code_33(self):
-        return (*self.path, "secret"), base64_fault(self.node("secret")), f"standard base64 with its padding, on one line: {NEW_SECRET}"
+        return (*self.path, "secret"), base64_fault(self.node("secret")), f"random bytes in standard base64 with its padding, on one line, and no password: {NEW_SECRET}"
 
     def code_34(self):
         size = len(base64.b64decode(self.node("secret")))
         do = f"a secret has 16, 24 or 32 bytes: {NEW_SECRET}"
         if size in (17, 25, 33):
             do += " (one byte more is often a newline: printf, and not echo)"
+        if re.fullmatch("(?:[0-9a-fA-F]{16})+", self.node("secret")):
+            do += " (is it hex? `xxd -r -p | base64` makes base64 of that)"
         return (*self.path, "secret"), f"secret has {size} byte{'' if size == 1 else 's'}", do
 
     def code_35(self):
         pattern = self.node()
         do = "write `name`, `name.group`, `*.group`, `*.` (the core group) or `*.*`"
-        if pattern == "*":
+        if re.search("[ ,]", pattern):
+            do = "write an item a resource, each on a line of its own behind `- `"
+        elif pattern == "*":
             do = "write '*.*' for all resources"
         elif pattern.endswith(".") and "." not in pattern[:-1]:
-            do = f"a resource of the core group has no dot here: {pattern[:-1]}"
+            do = f"a resource of the core group has no dot here: {masking.shown(pattern[:-1])}"
         elif "/" in pattern:
             name, _, group = pattern.partition("/")
-            do = f"a group stands behind a dot: {group}.{name}" if "." not in name else do
+            do = f"a group stands behind a dot: {masking.shown(group.lower())}.{masking.shown(name.lower())}" if "." not in name else do
         elif pattern != pattern.lower():
-            do = f"write it small: {pattern.lower()}"
-        return self.path, f"the resource is {shown(pattern)}", do
+            do = "write it small, in the plural: " + masking.shown(plural(pattern.lower()))
+        return self.path, f"the resource is {masking.scalar(pattern)}", do
 
     def code_36(self):
         first = at(self.tree, self.path[:-1]).index(self.node())
-        return self.path, f"{shown(self.node())} stands already on line {self.line_of((*self.path[:-1], first))}", "delete one of the two"
+        return self.path, f"{masking.scalar(self.node())} stands already on line {self.line_of((*self.path[:-1], first))}", "delete one of the two"
 
     def code_37(self):
         others = at(self.tree, self.path[:-1])[: self.path[-1]]
         first = next(place for place, other in enumerate(others) if configuration.overlap(self.node(), other))
-        found = f"{shown(self.node())} overlaps {shown(others[first])} on line {self.line_of((*self.path[:-1], first))}"
+        found = f"{masking.scalar(self.node())} overlaps {masking.scalar(others[first])} on line {self.line_of((*self.path[:-1], first))}"
         return self.path, found, "put them into two entries, the narrower one first: the first entry that matches decides"
 
     def code_38(self):
@@ -369,7 +416,7 @@ class Placing:
         kind = next(kind for kind in configuration.PROVIDERS if kind in element)
         name = self.node("name") if len(self.path) > 4 else ""
         first = next(path for path in providers_in(self.tree, self.path[1]) if (at(self.tree, path[:4]).keys() & {kind}) and self.name_at(path) == name)
-        found = f"{kind}{':' * bool(name)}{name} stands already on line {self.line_of((*first, 'name') if name else first)}"
+        found = f"{kind}{':' * bool(name)}{masking.shown(name)} stands already on line {self.line_of((*first, 'name') if name else first)}"
         return ((*self.path, "name") if name else self.path), found, "give the key another name, or delete one; two keys of one name can't be told apart"
 
     def name_at(self, path):
@@ -396,12 +443,17 @@ def providers_in(tree, entry):
             yield path
 
 
+def plural(word):
+    """A resource's name as lists have it, where the plural is one that is known."""
+    return next((other for other in (word + "s", word + "es", word[:-1] + "ies") if other in masking.RESOURCES), word)
+
+
 def base64_fault(secret):
     """Why a secret isn't strict standard base64, without telling it."""
     if not secret:
         return "the secret is empty"
     if re.search(r"[<>]", secret):
-        return f"the secret is a placeholder: {shown(secret)}"
+        return "the secret is a placeholder in < and >"
     if re.search(r"\s", secret):
         return "the secret has a blank or a newline in it"
     if re.search(r"[-_]", secret):

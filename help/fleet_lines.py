@@ -2,8 +2,9 @@
 
 import base64
 import binascii
-from pathlib import Path
 
+import plain_files
+from reference import masking
 from reference import words as grammar
 
 PARTS = {
@@ -35,7 +36,7 @@ def fault_of(before, words):
     if not before.has_head:
         return None if words == ["fleet", "1"] else "the first line is `fleet 1`"
     if words[0] not in PARTS:
-        return f"`{words[0]}` is no line's first word"
+        return f"{masking.scalar(words[0])} is no line's first word"
     if len(words) != len(PARTS[words[0]].split(" ")):
         return f"it is written `{PARTS[words[0]]}`, each part without spaces"
     return named_fault(before, words) or data_fault(words)
@@ -46,26 +47,26 @@ def named_fault(before, words):
         if before.workers:
             return "replicas stand before the first worker"
         if words[1] in before.replicas:
-            return f"there is a replica {words[1]} already"
+            return f"there is a replica {masking.shown(words[1])} already"
         if words[2] == "-" and not before.replicas:
             return "the first replica has a file, not `-`"
     elif words[0] == "worker":
         if words[1] in before.workers:
-            return f"there is a worker {words[1]} already"
+            return f"there is a worker {masking.shown(words[1])} already"
         if words[2] not in before.replicas:
-            return f"there is no replica {words[2]}"
+            return f"there is no replica {masking.shown(words[2])}"
     elif not before.workers:
         return "a worker's line stands before the first worker"
     elif words[0] in ("reload", "join", "leave") and words[1] not in before.replicas:
-        return f"there is no replica {words[1]}"
+        return f"there is no replica {masking.shown(words[1])}"
     if words[0] in ("replica", "worker") and not grammar.is_name(words[1].encode()):
-        return f"`{words[1]}` is no name: 1 to 253 bytes from ! to ~, none of them a colon"
+        return f"{masking.scalar(words[1])} is no name: 1 to 253 bytes from ! to ~, none of them a colon"
     return None
 
 
 def data_fault(words):
     if words[0] == "put" and not grammar.is_resource(words[1].encode()):
-        return f"`{words[1]}` is no resource"
+        return f"{masking.scalar(words[1])} is no resource"
     if words[0] in ("put", "get", "delete") and not grammar.is_path(words[2 if words[0] == "put" else 1].encode()):
         return "its path has a byte beyond ! to ~, or more than 1,024"
     if words[0] == "put" and words[3] != "-":
@@ -78,9 +79,9 @@ def data_fault(words):
 
 
 def fleet_fault(name, number):
-    """The line as it stands, and why it can't; or None where that isn't seen."""
+    """The line, as far as it may be shown, and why it can't stand there; or None where that isn't seen."""
     try:
-        lines = Path(name).read_bytes().split(b"\n")
+        lines = plain_files.content(name).split(b"\n")
     except OSError:
         return None
     before = Before()
@@ -94,7 +95,7 @@ def fleet_fault(name, number):
             continue
         fault = fault_of(before, words)
         if fault:
-            return f"`{line[:80]}`", fault if at == number else f"line {at} is the first one: {fault}"
+            return masking.fleet_line(line), fault if at == number else f"line {at} is the first one: {fault}"
         before.has_head = True
         if words[0] == "replica":
             before.replicas.append(words[1])

@@ -1,15 +1,18 @@
 """What can be seen of the files, plugins and stores that a call names."""
 
 import os
+import re
 import shutil
 import stat
 from pathlib import Path
 
+import plain_files
 from call_words import entries_of, provider_text
 from reference import configuration, store
 from reference.values import reader_of
 
 MAGICS = (b"KRSTORE1", b"KRSTORE2")
+INTO = "bridges/kms-bridge --into plugins --config FILE writes a program for each plugin of the configuration, and prints the word --plugin for it"
 
 
 def is_read_only(path):
@@ -42,6 +45,10 @@ def file_fault(name, is_store=False, writes=False):
             return f"a link to {os.readlink(path)}, which isn't there", "make what it names, or name another file"
         if not folder.exists():
             return f"its folder {folder} isn't there", f"mkdir -p {folder}, or name it from the current folder, {os.getcwd()}"
+        if writes and is_read_only(folder):
+            return f"its folder {folder} is on a read-only file system", "name a file elsewhere; this call makes the store"
+        if writes and not os.access(folder, os.W_OK | os.X_OK):
+            return f"there is no right to make it in {folder}", "run as the folder's owner, or name a file elsewhere"
         return "it isn't there", f"name it from the current folder, {os.getcwd()}" + similar(path)
     except NotADirectoryError:
         return "its path goes through what is no folder", "name the file itself"
@@ -78,6 +85,8 @@ def similar(path):
 
 def plugin_fault(name, program):
     """Why a plugin's program can't be started, or None."""
+    if program.startswith(("unix:", "tcp:", "http:", "https:")):
+        return "it is an endpoint, and a program is wanted that asks it", INTO
     if "/" not in program:
         if shutil.which(program):
             return None
@@ -88,13 +97,22 @@ def plugin_fault(name, program):
         return "it isn't there", f"name it from the current folder, {os.getcwd()}" + similar(path)
     if path.is_dir():
         return "it is a folder", "name the program in it"
+    if path.is_socket():
+        return "it is a socket, and a program is wanted that asks it", INTO
+    if not path.is_file():
+        return "it is a device or a pipe", "name a program"
     if not os.access(path, os.X_OK):
         return "it isn't executable", f"chmod +x {program}"
-    head = path.open("rb").read(128)
+    try:
+        head = plain_files.content(path, 128)
+    except OSError:
+        return "it is no plain file", "name the program itself"
     if head.startswith(b"#!"):
         reader = head[2:].split(b"\n")[0].decode(errors="replace").split()
         if not reader or not Path(reader[0]).exists():
-            return f"its first line names {reader[0] if reader else 'nothing'}, which isn't there", "mend its first line"
+            # (a file's words may be anything: only what looks like an interpreter's place is shown)
+            named = reader[0] if reader and re.fullmatch(r"/[a-z0-9/._+-]{1,60}", reader[0]) else "nothing that is a place"
+            return f"its first line names {named}, which isn't there", "mend its first line"
         if head.split(b"\n")[0].endswith(b"\r"):
             return "its first line ends in CR LF", "save it with LF alone"
     elif not head.startswith(b"\x7fELF"):
@@ -108,7 +126,7 @@ def plugin_fault(name, program):
 def rows_before(name, place):
     """How many whole rows stand before a byte of a store's file, or None."""
     try:
-        return len(store.read(Path(name).read_bytes()[:place])[1])
+        return len(store.read(plain_files.content(name, place))[1])
     except (OSError, store.Broken):
         return None
 
@@ -116,15 +134,37 @@ def rows_before(name, place):
 def head_of(name):
     """The first bytes of a file; none where it can't be read."""
     try:
-        return Path(name).read_bytes()[:8]
+        return plain_files.content(name, 8)
     except OSError:
         return b""
+
+
+# What files begin with that are taken for stores.
+KINDS = (
+    (b"SQLite format 3", "it begins as a database of SQLite"),
+    (b"\x1f\x8b", "it begins as what gzip packed"),
+    (b"KRSTORE", "it begins as a store of another format"),
+    (b"apiVersion", "it begins as a configuration does: `apiVersion`"),
+    (b"{", "it begins as JSON does"),
+    (b"fleet 1", "it begins as a fleet file does: `fleet 1`"),
+    (b"k8s:enc:", "it begins as a single stored value does, `k8s:enc:`, which is for `decrypt` and `inspect`"),
+)
+
+
+def kind_of_file(name):
+    """What a file is that is no store, as far as its first bytes tell, without showing them."""
+    try:
+        head = plain_files.content(name, 64)
+    except OSError:
+        return "it can't be read now"
+    head = head.removeprefix(b"\xef\xbb\xbf").lstrip(b"-\r\n \t")
+    return next((told for magic, told in KINDS if head.startswith(magic)), "its first bytes are none that kmsrest knows")
 
 
 def breach_of(name):
     """What breaks a store now, a code and a place; `()` where it is whole, None where it can't be read."""
     try:
-        store.read(Path(name).read_bytes())
+        store.read(plain_files.content(name))
     except store.Broken as no:
         return no.code, no.place
     except OSError:
@@ -149,7 +189,7 @@ def providers_in(name, resource):
 
 def rows_of(name):
     try:
-        return store.read(Path(name).read_bytes())[1]
+        return store.read(plain_files.content(name))[1]
     except (OSError, TypeError, store.Broken):
         return None
 
@@ -157,6 +197,17 @@ def rows_of(name):
 def row_at(name, path):
     """The live row of a path with its revision, or None."""
     return store.live(rows_of(name) or []).get(path.encode())
+
+
+def near_path(name, path):
+    """The path of a live row that is this one but for a slip, such as a / in front; or None."""
+    import difflib
+
+    paths = [one.decode() for one in store.live(rows_of(name) or [])]
+    if "/" + path in paths:
+        return "/" + path
+    # (a person's slip is looked for among few)
+    return next(iter(difflib.get_close_matches(path, paths, 1, 0.9)), None) if len(paths) <= 1000 else None
 
 
 def stored_with(name, path):

@@ -22,11 +22,11 @@ CODES = {
     38: ("two providers of an entry have one kind and one name", "give a key another name, or delete one"),
     40: ("a file that the words name isn't there", "name it from the current folder"),
     41: ("the store's first bytes are those of no store", "is it another file? A store begins KRSTORE1 or KRSTORE2"),
-    42: ("the store ends in the midst of a row: a program was killed while it wrote, or the file was cut", "a store that came out of etcd: remove it and its map, and import anew; another one: copy the file, then cut it there, truncate -s PLACE FILE"),
-    43: ("the store has a row that breaks its format", "restore it from a copy; all rows before that byte are whole"),
+    42: ("the store ends in the midst of a row: a program was killed while it wrote, or the file was cut", "a store that came out of etcd: remove it and its map, and import anew; another one: kmsrest recover FILE NEW keeps the rows before it"),
+    43: ("the store has a row that breaks its format, as behind a loss of power", "restore it from a copy; all rows before that byte are whole"),
     44: ("a configuration names a KMS plugin to which no program was given", "add --plugin NAME=PROGRAM"),
     45: ("a plugin says that it isn't well: its version isn't v2, its healthz isn't ok, or its key_id is empty or too long", "look at the plugin and its key service"),
-    46: ("the store has a row of another revision than its place: rows are missing, or two files were joined", "restore it from a copy"),
+    46: ("the store has a row of another revision than its place: rows are missing, as behind a loss of power, or two files were joined", "restore it from a copy"),
     47: ("a line of the fleet file can't stand where it stands", "FORMATS, 'The fleet file', has the lines"),
     48: ("no provider of the first configuration reads what is stored at the path", "use the configuration that the API servers have, with the key that wrote it"),
     49: ("the configurations of the API servers don't go together", "give each the configuration that it really has"),
@@ -55,7 +55,7 @@ REFUSALS = {
 
 FAULTS = {
     "input": ("standard input can't be read", "is it open, and no folder?"),
-    "output": ("standard output can't be written", "is the disk full, or the reader of the pipe gone?"),
+    "output": ("standard output can't be written", "is the disk full, or the reader of the pipe gone? `| head` leaves before all is written: write to a file and read that, or take `| sed -n 1,10p`, which reads to the end"),
     "store": ("the store can't be read, written or synced", "is the disk full? what was being written may be lost: copy the store to a new file (cp, sync) and go on with the copy; one that came out of etcd is imported anew"),
     "target": ("the file of --to can't be written or synced", "is the disk full? remove it and begin again"),
     "dice": ("the system gives no random bytes", "look at /dev/urandom"),

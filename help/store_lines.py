@@ -4,6 +4,7 @@ import json
 from pathlib import Path
 
 import looks
+import plain_files
 
 ANEW = "rm {0} {0}.map, and begin with etcd-to-store again"
 
@@ -11,8 +12,8 @@ ANEW = "rm {0} {0}.map, and begin with etcd-to-store again"
 def imported_rows(name):
     """How many rows were imported into a store out of etcd, by the map beside it; None where there is none, or it is torn."""
     try:
-        return int(json.loads(Path(name + ".map").read_bytes().splitlines()[0])["rows"])
-    except (OSError, ValueError, KeyError, IndexError, TypeError):
+        return int(json.loads(plain_files.content(name + ".map").splitlines()[0])["rows"])
+    except (OSError, ValueError, KeyError, IndexError, TypeError, RecursionError):
         return None
 
 
@@ -54,16 +55,15 @@ def store_line(told, code, place, call):
         if now_otherwise(told, name, code, place):
             return
         if code == 41:
-            head = looks.head_of(name)
-            told.add("found", f"it begins {head!r}" if head else "it can't be read now")
+            told.add("found", looks.kind_of_file(name))
             return
         rows = looks.rows_before(name, place)
         told.add("found", f"{plural(rows, 'whole row')} before it" if rows is not None else "what stands before it can't be read either")
-        cut = f"cp {name} {name}.copy && truncate -s {place} {name}"
+        recover = f"kmsrest recover {name} {name}.new"
         if Path(name + ".map").exists():
             out_of_etcd(told, name, rows)
         elif code == 42:
             told.add("do", "where it came out of etcd: remove it, and begin with etcd-to-store again")
-            told.add("do", f"else {cut}: the rows before it stay, and the cut one was never answered")
+            told.add("do", f"else {recover}: the rows before it, and what the cut one was; that was never answered")
         else:
-            told.add("do", f"restore it from a copy; else {cut}, which loses this row and all behind it")
+            told.add("do", f"restore it from a copy; else {recover}: the rows before it, and path by path what stands behind it")

@@ -3,8 +3,8 @@
 import sys
 from pathlib import Path
 
-# What is read and written as kmsrest does stands in tools/stored/reference; protobuf's modules in bridges/generated.
+# What is read and written as kmsrest does stands in reference/; protobuf's modules in bridges/generated.
 _BRIDGES = Path(__file__).resolve().parent.parent
-for _folder in (_BRIDGES.parent / "tools" / "stored", _BRIDGES):
+for _folder in (_BRIDGES.parent, _BRIDGES):
     if str(_folder) not in sys.path:
         sys.path.insert(0, str(_folder))

@@ -3,8 +3,8 @@ needed. With --still it tells whether there is any value of an old key: whether 
 
 import argparse
 import collections
+import difflib
 import json
-import sys
 from collections.abc import Iterator
 from dataclasses import dataclass
 
@@ -15,9 +15,12 @@ from reference.values import read_object, split
 from .common_words import add_reading, add_sources, places_of
 from .errors import visible
 from .keys import KeyValue
+from .opening import entries_of, provider_name
+from .output import tell
 from .places import Places
-from .programs import run_program
+from .programs import run_program, say
 from .sources import Source, judge_prefix, source_of
+from .worn_keys import worn
 
 METRIC = "kmsrest_stored_values"
 HELP = "Values stored in etcd, by resource, by the provider that sealed them, and of plugins by key id."
@@ -38,7 +41,14 @@ def parsed(arguments: list[str]) -> tuple[argparse.Namespace, Places]:
         action="append",
         default=[],
         metavar="PROVIDER[@KEY_ID]",
-        help="end with 1 while there is a value of it: aescbc:key1, kms:p, kms:p@k1, plain; may be repeated",
+        help="end with 1 while there is a value of it: aescbc:key1, kms:p, kms:p@k1, plain; may be repeated; wants --config",
+    )
+    parser.add_argument(
+        "--config",
+        action="append",
+        default=[],
+        metavar="C",
+        help="a configuration that the API servers have, which names each provider of --still; may be repeated",
     )
     parser.add_argument("--output", choices=("text", "json", "prometheus"), default="text", help="how to print (text)")
     words = parser.parse_args(arguments)
@@ -46,7 +56,28 @@ def parsed(arguments: list[str]) -> tuple[argparse.Namespace, Places]:
     for still in words.still:
         if still != "plain" and still != "strange" and not still.startswith(("aescbc:", "aesgcm:", "kms:")):
             parser.error(f"--still {still}: not plain, strange, aescbc:NAME, aesgcm:NAME or kms:NAME[@KEY_ID]")
+    judge_asked(parser, words)
     return words, places_of(parser, words)
+
+
+def judge_asked(parser: argparse.ArgumentParser, words: argparse.Namespace) -> None:
+    """A provider that no configuration names is a slip, and of that nothing is stored ever: it would pass for one that may go."""
+    keyed = [still for still in words.still if ":" in still]
+    if keyed and not words.config:
+        parser.error(f"--still {keyed[0]} wants --config C, the configuration that the API servers have: a slip in the name would pass as `may go`")
+    named = {provider_name(one) for name in words.config for one in providers_of(name)}
+    for still in keyed:
+        if still not in named and "@" in still and not still.startswith("kms:"):
+            parser.error(f"--still {still}: values of a plugin alone have a key id")
+        if still.partition("@")[0] not in named and still not in named:
+            near = difflib.get_close_matches(still.partition("@")[0], sorted(named), 1, 0.6)
+            parser.error(f"--still {still}: no --config names it" + (f"; one names {near[0]}" if near else ""))
+
+
+def providers_of(name: str) -> Iterator[tuple]:
+    """The providers of a configuration, of all its entries."""
+    for _patterns, providers in entries_of(name):
+        yield from providers
 
 
 @dataclass(frozen=True, order=True)
@@ -127,7 +158,7 @@ def judged(counts: Counts, asked: list[str]) -> bool:
         number = sum(number for kind, number in counts.items() if kind.is_asked(still))
         if number:
             is_free = False
-            print(f"etcd-audit: still {still}: {number}", file=sys.stderr)
+            say(f"etcd-audit: still {still}: {number}")
     return is_free
 
 
@@ -137,8 +168,9 @@ def work(arguments: list[str]) -> int:
         counts = counted(source, places, words)
         if not counts:
             judge_prefix(source, words.prefix)
-        for line in OUTPUTS[words.output](counts, source.revision):
-            print(line)
+        tell(OUTPUTS[words.output](counts, source.revision))
+    for line in worn(counts):
+        say(f"etcd-audit: {line}")
     return 0 if judged(counts, words.still) else 1
 
 

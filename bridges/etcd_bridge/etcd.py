@@ -5,10 +5,12 @@ import os
 import shutil
 from collections.abc import Iterator, Mapping
 
-from .errors import NoAnswer
+from .errors import NoAnswer, visible
 from .keys import KeyRange, KeyValue, Write
 
 PAGE = 500
+# More than an etcd of any size holds: one that goes on is none.
+MOST_KEYS = 100_000_000
 
 
 class Etcd(abc.ABC):
@@ -17,19 +19,39 @@ class Etcd(abc.ABC):
     def __init__(self) -> None:
         self.cluster: int | None = None
         self.revision = 0
+        # Whether a transaction was sent of which no answer tells what became of it.
+        self.is_unsure = False
 
-    @abc.abstractmethod
     def pages(self, span: KeyRange, size: int) -> Iterator[list[KeyValue]]:
-        """Lists of what is stored in a range of keys, in the order of the keys, of at most so many each."""
+        """Lists of what is stored in a range of keys, in the order of the keys, of at most so many each. An etcd that tells a key
+        twice, or one of another range, is none, and would be read without an end."""
+        last, count = None, 0
+        for page in self.told_pages(span, size):
+            count += len(page)
+            if count > MOST_KEYS:
+                raise NoAnswer(f"etcd tells more than {MOST_KEYS} keys")
+            for found in page:
+                if not span.has(found.key) or (last is not None and found.key <= last):
+                    raise NoAnswer(f"etcd tells the key {visible(found.key)} where it can't be: each comes once, in its order")
+                last = found.key
+            yield page
 
     @abc.abstractmethod
-    def swap(self, writes: list[Write]) -> list[KeyValue | None] | None:
-        """All values are put, each with the lease of its key, where each key has the revision of its write: None. Else
-        nothing is put, and what is there now is the answer, in order, with None for a key that is gone."""
+    def told_pages(self, span: KeyRange, size: int) -> Iterator[list[KeyValue]]:
+        """The same, as etcd tells them."""
+
+    @abc.abstractmethod
+    def swap(self, writes: list[Write], with_values: bool = True) -> list[KeyValue | None] | None:
+        """All values are put, each with the lease of its key, where each key has the old value of its write and its revisions:
+        None. Else nothing is put, and what is there now is the answer, in order, with None for a key that is gone. Without values
+        the revisions alone are compared. No endpoint is sent a write before it has named its cluster."""
 
     @abc.abstractmethod
     def now(self, keys: list[bytes]) -> list[KeyValue | None]:
         """What the keys have now, with None for one that is gone."""
+
+    def meet_all(self) -> None:
+        """Each endpoint names its cluster, where that can be asked of all at once; else each is asked before its first write."""
 
     def close(self) -> None:
         """Nothing more is asked."""
@@ -50,7 +72,7 @@ def connect(environment: Mapping[str, str] = os.environ) -> Etcd:
     program = environment.get("ETCDCTL")
     if program:
         return ByEtcdctl(program, environment)
-    from .settings import Settings
+    from .settings import Settings, judge_certificates
 
     settings = Settings.of(environment)
     try:
@@ -59,6 +81,7 @@ def connect(environment: Mapping[str, str] = os.environ) -> Etcd:
         missing = "there is no grpcio"
     else:
         if not settings.for_etcdctl:
+            judge_certificates(environment)
             return ByGrpc(settings)
         missing = f"{settings.for_etcdctl} is for etcdctl alone"
     if shutil.which("etcdctl") is None:

@@ -1,21 +1,23 @@
 """store-to-etcd: what a rewrite sealed anew goes back to its etcd, where nobody wrote there meanwhile."""
 
 import argparse
+import contextlib
 import fcntl
-import sys
 import time
 from dataclasses import dataclass, field
 
 from reference.store import MOST_STORE, Broken, Row, read
 
-from .common_words import count, plugin, seconds
-from .errors import Refused
+from . import first_sealing, written_back
+from .common_words import count, plugin, resource, seconds
+from .errors import OutputFailed, Refused
 from .etcd import Etcd, connect
 from .keys import Write, below, prefixed
 from .maps import Map, cluster_text, digest
 from .opening import Configuration
 from .programs import run_program
-from .sending import MOST_BATCH, Outcome, Sender
+from .reporting import Report
+from .sending import MOST_BATCH, Sender
 
 
 def parsed(arguments: list[str]) -> argparse.Namespace:
@@ -23,8 +25,8 @@ def parsed(arguments: list[str]) -> argparse.Namespace:
         prog="store-to-etcd",
         allow_abbrev=False,
         description=__doc__,
-        epilog="Endpoints and certificates come from etcdctl's environment. Status: 0; 1 something changed meanwhile or was "
-        "refused; 2 the words.",
+        epilog="Endpoints and certificates come from etcdctl's environment. Status: 0; 1 something changed meanwhile, was "
+        "refused, or was left plain; 2 the words.",
     )
     parser.add_argument("--store", required=True, metavar="F", help="the store, as `kmsrest rewrite` left it")
     parser.add_argument("--map", metavar="M", help="its map (F.map)")
@@ -43,11 +45,19 @@ def parsed(arguments: list[str]) -> argparse.Namespace:
     )
     parser.add_argument("--dry-run", action="store_true", help="say what would be written, and write nothing")
     parser.add_argument(
-        "--batch", type=count, default=50, metavar="N", help=f"how many values a transaction has (50, at most {MOST_BATCH})"
+        "--batch", type=count, default=MOST_BATCH, metavar="N", help=f"how many values a transaction has (at most {MOST_BATCH})"
     )
     parser.add_argument("--pause", type=seconds, default=0, metavar="S", help="seconds between transactions (0)")
     parser.add_argument(
         "--cluster", metavar="ID", help="the cluster to write to, where it isn't the map's (restored) or the map has none"
+    )
+    parser.add_argument(
+        "--first",
+        action="append",
+        default=[],
+        type=resource,
+        metavar="RESOURCE",
+        help="seal this resource's plain values though nothing of it in etcd is sealed yet; may be repeated",
     )
     words = parser.parse_args(arguments)
     if words.batch > MOST_BATCH:
@@ -92,10 +102,13 @@ def rows_of(name: str) -> dict[bytes, tuple[Row, Row]]:
 
 @dataclass
 class Plan:
-    """What goes back, and how many values are as they were."""
+    """What goes back, how many values are as they were, the resources that had sealed values, and how many plain values are
+    left since nothing shows that API servers seal them."""
 
     changes: list[Change] = field(default_factory=list)
     same: int = 0
+    sealed: set[str] = field(default_factory=set)
+    left_plain: int = 0
 
     @classmethod
     def of(cls, rows: dict[bytes, tuple[Row, Row]], known: Map) -> "Plan":
@@ -112,10 +125,12 @@ class Plan:
                 raise Refused(f"{key}: the store has it as {last.resource.decode()}, the map as {kept.resource}")
             if digest(first.value) != kept.sha256:
                 raise Refused(f"{key}: the store's first value isn't the one that the map was made with")
+            if first_sealing.is_sealed(first.value):
+                plan.sealed.add(kept.resource)
             if last.value == first.value:
                 plan.same += 1
             else:
-                write = Write(key.encode(), kept.mod, last.value)
+                write = Write(key.encode(), first.value, kept.mod, kept.create, last.value)
                 plan.changes.append(Change(write, kept.resource, first.value))
         return plan
 
@@ -130,6 +145,14 @@ class Plan:
                 raise Refused(f"{key.decode()}: {no}") from None
             if old != new:
                 raise Refused(f"{key.decode()}: the old value and the new one open to different objects")
+
+    def leave_unshown(self, etcd: Etcd, known: Map, first: list[str]) -> None:
+        """Plain values are left where nothing shows that API servers seal their resource."""
+        left = first_sealing.unshown(etcd, known, self.changes, self.sealed.union(first))
+        names = {it.resource for it in left}
+        self.changes = [it for it in self.changes if it.resource not in names or not first_sealing.seals_first(it)]
+        self.left_plain = sum(it.count for it in left)
+        first_sealing.tell(left)
 
 
 def planned(words: argparse.Namespace) -> tuple[Map, Plan]:
@@ -147,6 +170,7 @@ def planned(words: argparse.Namespace) -> tuple[Map, Plan]:
 
 def judge_cluster(etcd: Etcd, known: Map, wanted: str | None) -> None:
     """The etcd that answers must be the one that the map's revisions are of."""
+    etcd.meet_all()
     next(etcd.pages(prefixed(below(known.prefix)), 1))
     found, named = cluster_text(etcd.cluster), wanted or known.cluster
     if named is None:
@@ -155,44 +179,23 @@ def judge_cluster(etcd: Etcd, known: Map, wanted: str | None) -> None:
         raise Refused(f"this is the cluster {found}, and not {named}")
 
 
-class Progress:
-    """How far it is, on a terminal alone."""
-
-    def __init__(self, of: int):
-        self.of, self.done, self.shows = of, 0, sys.stderr.isatty()
-
-    def show(self, more: int) -> None:
-        self.done += more
-        if self.shows:
-            print(f"\rstore-to-etcd: {self.done} of {self.of}", end="", file=sys.stderr, flush=True)
-
-    def end(self) -> None:
-        if self.shows:
-            print(file=sys.stderr)
-
-
 def sent(words: argparse.Namespace, etcd: Etcd, plan: Plan) -> bool:
     """Sends the changes, and tells what came of them, also where etcd stops answering in their midst. Whether all went."""
     sender = Sender(etcd, words.dry_run)
-    counts = dict.fromkeys(Outcome, 0)
-    progress = Progress(len(plan.changes))
+    report = Report(words.dry_run, len(plan.changes), plan.same, plan.left_plain)
     try:
         for number, batch in enumerate(sender.batches([it.write for it in plan.changes], words.batch)):
             if number and words.pause and not words.dry_run:
                 time.sleep(words.pause)
             for write, outcome, why in sender.send(batch):
-                counts[outcome] += 1
-                if outcome is Outcome.CHANGED:
-                    print("changed", write.key.decode(), flush=True)
-                elif outcome is Outcome.REFUSED:
-                    print("refused", write.key.decode(), why, flush=True)
-            progress.show(len(batch))
-    finally:
-        progress.end()
-        for outcome, number in counts.items():
-            print("would-write" if words.dry_run and outcome is Outcome.WRITTEN else outcome.value, number)
-        print("same", plan.same)
-    return counts[Outcome.CHANGED] + counts[Outcome.REFUSED] == 0
+                report.add(write, outcome, why)
+            report.show()
+    except BaseException:
+        with contextlib.suppress(OutputFailed):
+            report.end(sender.unknown())
+        raise
+    report.end([])
+    return report.is_done()
 
 
 def work(arguments: list[str]) -> int:
@@ -201,7 +204,11 @@ def work(arguments: list[str]) -> int:
     etcd = connect()
     try:
         judge_cluster(etcd, known, words.cluster)
-        return 0 if sent(words, etcd, plan) else 1
+        plan.leave_unshown(etcd, known, words.first)
+        all_went = sent(words, etcd, plan)
+        if all_went and not words.dry_run:
+            written_back.note(words.store)
+        return 0 if all_went else 1
     finally:
         etcd.close()
 

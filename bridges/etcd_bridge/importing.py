@@ -1,8 +1,6 @@
 """etcd-to-store: the values of an etcd into a new store of kmsrest, with a map for the way back."""
 
 import argparse
-import collections
-import sys
 from collections.abc import Iterator
 from dataclasses import dataclass, field
 
@@ -16,14 +14,15 @@ from .keys import KeyValue
 from .maps import MapRow, digest
 from .new_files import NewFiles
 from .opening import Configuration
+from .output import tell
 from .places import Places
-from .programs import run_program
+from .programs import run_program, say
 from .sources import Source, judge_prefix, source_of
 from .store_parts import HALF, StoreParts, Target
+from .troubles import Troubles
 
 MOST_PATH = 1024
-# How many values of one kind a refusal names.
-NAMED = 10
+UNKNOWN = "places that are unknown: --resource PLACE=RESOURCE says what one holds; is --prefix the API server's --etcd-prefix?"
 
 
 def parsed(arguments: list[str]) -> tuple[argparse.Namespace, Places]:
@@ -76,27 +75,6 @@ def head_of(value: bytes) -> bytes:
 
 
 @dataclass
-class Troubles:
-    """Why values can't be copied, each with keys that have it."""
-
-    found: dict[str, list[str]] = field(default_factory=lambda: collections.defaultdict(list))
-
-    def add(self, why: str, key: bytes) -> None:
-        self.found[why].append(visible(key))
-
-    def judge(self) -> None:
-        if self.found:
-            raise Refused("\n".join(self.lines()))
-
-    def lines(self) -> Iterator[str]:
-        for why, keys in self.found.items():
-            for key in keys[:NAMED]:
-                yield f"{key}: {why}"
-            if len(keys) > NAMED:
-                yield f"(and {len(keys) - NAMED} more: {why})"
-
-
-@dataclass
 class Import:
     """One import: its words, the places, the configuration if there is one, where from, where to, and what came of it."""
 
@@ -122,7 +100,8 @@ class Import:
         name = self.places.resource_of(found.key)
         if name is None:
             place = visible(self.places.place_of(found.key))
-            self.troubles.add(f"the place {place} is unknown: --resource {place}=RESOURCE says what it holds", found.key)
+            why = f"the place {place} is unknown: --resource {place}=RESOURCE says what it holds"
+            self.troubles.add(why, found.key, UNKNOWN)
         elif name not in self.words.excepted and (not self.words.only or name in self.words.only):
             why = unfit(found)
             if why is None:
@@ -141,22 +120,23 @@ class Import:
                 self.troubles.add(str(no), found.key)
                 return
         value = head_of(found.value) if self.words.heads else found.value
-        self.parts.add(self.source, found.key, MapRow(name, found.mod, digest(found.value)), value, check)
+        self.parts.add(self.source, found.key, MapRow(name, found.mod, found.create, digest(found.value)), value, check)
         self.rows += 1
 
     def tell(self) -> None:
-        for line in self.left_out:
-            print("left-out", line)
-        print("rows", self.rows)
-        print("left-out", len(self.left_out))
-        print("revision", self.source.revision)
+        tell(self.lines())
         if not self.rows:
-            print("etcd-to-store: keys stand there, and none is of a resource that was asked for", file=sys.stderr)
+            say("etcd-to-store: keys stand there, and none is of a resource that was asked for")
+        if self.words.part is None and self.parts.parts[0].size > HALF and not self.words.heads:
+            say(f"etcd-to-store: a rewrite of all rows needs as much room again: --part {HALF} parts them")
+
+    def lines(self) -> Iterator[str]:
+        yield from (f"left-out {line}" for line in self.left_out)
+        yield f"rows {self.rows}"
+        yield f"left-out {len(self.left_out)}"
+        yield f"revision {self.source.revision}"
         if self.words.part is not None:
-            for part in self.parts.parts:
-                print("part", part.name, part.count, part.size)
-        elif self.parts.parts[0].size > HALF and not self.words.heads:
-            print(f"etcd-to-store: a rewrite of all rows needs as much room again: --part {HALF} parts them", file=sys.stderr)
+            yield from (f"part {part.name} {part.count} {part.size}" for part in self.parts.parts)
 
 
 def unfit(found: KeyValue) -> str | None:

@@ -5,11 +5,12 @@ from dataclasses import dataclass
 
 @dataclass(frozen=True)
 class KeyValue:
-    """What etcd has at a key."""
+    """What etcd has at a key: the value, the revision that put it, and the one that made the key."""
 
     key: bytes
     value: bytes
     mod: int
+    create: int
 
 
 @dataclass(frozen=True, order=True)
@@ -25,11 +26,21 @@ class KeyRange:
 
 @dataclass(frozen=True)
 class Write:
-    """A value to be put in the place of what has this revision."""
+    """A value to be put in the place of the old one, which has these revisions too. An older map doesn't tell the one that made
+    the key: None."""
 
     key: bytes
+    old: bytes
     mod: int
+    create: int | None
     value: bytes
+
+    def replaces(self, now: KeyValue | None) -> bool:
+        """Whether what stands there now is what was imported. Revisions alone don't tell it: a cluster that was restored counts
+        them anew under its old id, and another value may have the same ones."""
+        return (
+            now is not None and now.value == self.old and now.mod == self.mod and self.create in (None, now.create)
+        )
 
 
 def prefixed(prefix: bytes) -> KeyRange:

@@ -34,6 +34,21 @@ def provider_name(provider: tuple) -> str:
     return f"{provider[0]}:{provider[1]}" if provider[1] else provider[0]
 
 
+def entries_of(name: str) -> list:
+    """The entries of a configuration's file."""
+    try:
+        with open(name, "rb") as file:
+            content = file.read(MOST_CONFIG + 1)
+    except OSError as no:
+        raise Refused(f"the configuration {name}: {no.strerror}") from None
+    if len(content) > MOST_CONFIG:
+        raise Refused(f"the configuration {name} has more than {MOST_CONFIG} bytes")
+    try:
+        return configuration.read(content)
+    except configuration.Breach as no:
+        raise Refused(f"the configuration {name}: text {no.code} {no.first} {no.second}") from None
+
+
 class Configuration:
     """What a configuration's file means. Values of plugins open by the programs that were given."""
 
@@ -44,17 +59,7 @@ class Configuration:
     def read(cls, name: str, programs: Iterable[tuple[str, str]] = ()) -> "Configuration":
         if importlib.util.find_spec("cryptography") is None:
             raise Refused("values are opened by Python's cryptography, which isn't here")
-        try:
-            with open(name, "rb") as file:
-                content = file.read(MOST_CONFIG + 1)
-        except OSError as no:
-            raise Refused(f"the configuration {name}: {no.strerror}") from None
-        if len(content) > MOST_CONFIG:
-            raise Refused(f"the configuration {name} has more than {MOST_CONFIG} bytes")
-        try:
-            return cls(configuration.read(content), dict(programs))
-        except configuration.Breach as no:
-            raise Refused(f"the configuration {name}: text {no.code} {no.first} {no.second}") from None
+        return cls(entries_of(name), dict(programs))
 
     def providers(self, resource: str) -> list[tuple]:
         return configuration.list_for(self.entries, resource)

@@ -2,14 +2,22 @@
 
 import base64
 import json
+import os
+import select
 import shlex
 import subprocess
+import time
 
+from reference import masking
 from reference.plugins import Kept
 
 from .errors import Refused
 
 MOST_LINE = 131_072
+MOST_WORDS = 300
+PIECE = 65_536
+# Seconds for an answer; kms-bridge, with its own deadlines and tries, is done before.
+PATIENCE = 60
 
 
 class Link:
@@ -19,7 +27,7 @@ class Link:
         self.name, self.uid = name, 0
         try:
             self.child = subprocess.Popen(
-                [program], stdin=subprocess.PIPE, stdout=subprocess.PIPE, stderr=subprocess.DEVNULL
+                [program], stdin=subprocess.PIPE, stdout=subprocess.PIPE, stderr=subprocess.DEVNULL, bufsize=0
             )
         except OSError as no:
             raise Refused(f"the plugin {name}: {program}: {no.strerror}") from None
@@ -44,20 +52,31 @@ class Link:
         try:
             return base64.b64decode(reply["plaintext"], validate=True)
         except (KeyError, TypeError, ValueError):
-            raise Refused(f"the plugin {self.name} unwraps nothing: {shlex.quote(str(reply.get('error')))}") from None
+            why = shlex.quote(masking.foreign(reply.get("error"))[:MOST_WORDS])
+            raise Refused(f"the plugin {self.name} unwraps nothing: {why}") from None
 
     def ask(self, request: dict) -> dict:
         """The reply to one line."""
         try:
             self.child.stdin.write(json.dumps(request, separators=(",", ":"), ensure_ascii=False).encode() + b"\n")
-            self.child.stdin.flush()
-            line = self.child.stdout.readline(MOST_LINE + 1)
-            reply = json.loads(line)
-        except (OSError, ValueError):
+            reply = json.loads(self.line())
+        except (OSError, ValueError, RecursionError):
             raise Refused(f"the plugin {self.name} answers no line that can be read") from None
         if not isinstance(reply, dict):
             raise Refused(f"the plugin {self.name} answers no object")
         return reply
+
+    def line(self) -> bytes:
+        """What the plugin writes up to a line's end, for which nobody waits longer than kmsrest's user would."""
+        data, end = b"", time.monotonic() + PATIENCE
+        while b"\n" not in data and len(data) <= MOST_LINE:
+            if not select.select([self.child.stdout], (), (), max(0, end - time.monotonic()))[0]:
+                raise Refused(f"the plugin {self.name} gave no answer within {PATIENCE} seconds")
+            piece = os.read(self.child.stdout.fileno(), PIECE)
+            if not piece:
+                break
+            data += piece
+        return data
 
     def close(self) -> None:
         self.child.stdin.close()

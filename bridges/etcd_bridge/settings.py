@@ -1,5 +1,6 @@
 """Endpoints and certificates, from etcdctl's environment."""
 
+import ssl
 from collections.abc import Mapping
 from dataclasses import dataclass
 from pathlib import Path
@@ -42,12 +43,35 @@ class Settings:
         files = [content(environment, name) for name in ("ETCDCTL_CACERT", "ETCDCTL_CERT", "ETCDCTL_KEY")]
         named = environment.get("ETCDCTL_ENDPOINTS") or ENDPOINTS
         endpoints = [Endpoint.of(text.strip()) for text in named.split(",") if text.strip()]
+        if not endpoints:
+            raise NoAnswer("ETCDCTL_ENDPOINTS names no endpoint")
         for endpoint in endpoints:
             if endpoint.is_secure is None:
                 # (as etcdctl: an endpoint without a scheme is secure where certificates are named)
                 endpoint.is_secure = any(files)
         other = [name for name in FOR_ETCDCTL if environment.get(name) not in (None, "", "false")]
         return cls(endpoints, *files, other[0] if other else None)
+
+
+def judge_certificates(environment: Mapping[str, str]) -> None:
+    """Looks at the files of certificates, each of which exists: grpcio ends the process, or waits for an answer that can't come, where
+    one of a pair is missing or they don't go together."""
+    authority, certificate, key = (environment.get(name) for name in ("ETCDCTL_CACERT", "ETCDCTL_CERT", "ETCDCTL_KEY"))
+    if bool(certificate) != bool(key):
+        there, missing = ("CERT", "KEY") if certificate else ("KEY", "CERT")
+        raise NoAnswer(f"ETCDCTL_{there} is set, and ETCDCTL_{missing} isn't: a client's certificate and its key go together")
+    context = ssl.SSLContext(ssl.PROTOCOL_TLS_CLIENT)
+    try:
+        if authority:
+            context.load_verify_locations(authority)
+    except (OSError, ValueError):
+        raise NoAnswer("ETCDCTL_CACERT names no certificate in PEM") from None
+    try:
+        if certificate:
+            # (a key with a password would be asked for on the terminal)
+            context.load_cert_chain(certificate, key, password=lambda: "")
+    except (OSError, ValueError):
+        raise NoAnswer("ETCDCTL_CERT and ETCDCTL_KEY are no certificate in PEM with its key, or don't go together") from None
 
 
 def content(environment: Mapping[str, str], name: str) -> bytes | None:

@@ -2,6 +2,7 @@
 
 import argparse
 import contextlib
+import itertools
 import os
 import shutil
 import socket
@@ -12,9 +13,11 @@ from collections.abc import Iterable, Iterator
 from pathlib import Path
 from typing import Protocol
 
+from reference import masking
+
 from .errors import NoAnswer, Refused, visible
 from .etcd import Etcd, connect
-from .etcdctl_json import answer_of, keys_and_values
+from .etcdctl_json import header_of, keys_and_values, parsed
 from .keys import KeyRange, KeyValue, below, prefixed
 
 # Seconds in which an etcd over a snapshot must answer.
@@ -42,13 +45,18 @@ class FromJson:
         except OSError as no:
             raise Refused(f"{name}: {no.strerror}") from None
         try:
-            answer = answer_of(content, name)
+            answer = parsed(content, name)
+            self.cluster, self.revision = header_of(answer, name)
+            self.found = sorted(keys_and_values(answer), key=lambda it: it.key)
         except NoAnswer as no:
             raise Refused(str(no)) from None
-        self.cluster, self.revision = answer["header"]["cluster_id"], answer["header"]["revision"]
-        self.found = sorted(keys_and_values(answer), key=lambda it: it.key)
-        if answer.get("more") or len(self.found) != answer.get("count", 0):
-            raise Refused(f"{name} has {len(self.found)} of {answer.get('count')} keys: it was written with a limit")
+        twice = next((one.key for one, other in itertools.pairwise(self.found) if one.key == other.key), None)
+        if twice is not None:
+            raise Refused(f"{name} has the key {visible(twice)} twice")
+        count = answer.get("count", 0)
+        if answer.get("more") or len(self.found) != count:
+            told = count if isinstance(count, int) else "?"
+            raise Refused(f"{name} has {len(self.found)} of {told} keys: it was written with a limit")
         if not all(one.value for one in self.found):
             raise Refused(f"{name} has keys without values: it was written with --keys-only")
 
@@ -116,7 +124,7 @@ def restore(tool: str, snapshot: str, folder: str) -> None:
     done = subprocess.run(words, cwd=folder, env=bare(), capture_output=True, check=False)
     if done.returncode != 0:
         text = done.stderr.decode(errors="replace").strip() or "no word"
-        raise Refused(f"{snapshot} can't be restored: {text.splitlines()[-1]}")
+        raise Refused(f"{snapshot} can't be restored: {masking.foreign(text.splitlines()[-1])}")
 
 
 def member_words() -> list[str]:
@@ -141,7 +149,8 @@ def wait_for(child: subprocess.Popen, folder: str) -> Etcd:
                 return connect({**bare(), "ETCDCTL_ENDPOINTS": f"unix://{path}"})
         time.sleep(0.05)
     with open(os.path.join(folder, "log"), encoding="utf-8", errors="replace") as log:
-        raise Refused("etcd doesn't serve the snapshot's copy: " + "".join(log.readlines()[-3:]).strip())
+        said = " ".join(masking.foreign(line.strip()) for line in log.readlines()[-3:])
+        raise Refused(f"etcd doesn't serve the snapshot's copy: {said}")
 
 
 def judge_prefix(source: Source, prefix: str) -> None:

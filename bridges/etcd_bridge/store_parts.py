@@ -1,13 +1,14 @@
 """A store that is written row by row, in one file or in parts, each with its map."""
 
+import re
 from dataclasses import dataclass, field
-from typing import BinaryIO
+from pathlib import Path
 
 from reference.store import MAGICS, MOST_STORE, Row, row_bytes
 
 from .errors import Refused
 from .maps import Map, MapRow, cluster_text
-from .new_files import NewFiles
+from .new_files import NewFile, NewFiles, clear_killed
 
 # A rewrite puts as many rows behind those that are there.
 HALF = MOST_STORE // 2
@@ -30,6 +31,20 @@ class Target:
     def store_name(self, number: int) -> str:
         return self.numbered(self.store, number)
 
+    def first_name(self) -> str:
+        """The name that is given first."""
+        return self.map_name(1) if self.has_map else self.store_name(1)
+
+    def folders(self) -> set[Path]:
+        return {Path(name).parent for name in (self.store_name(1), *([self.map_name(1)] if self.has_map else []))}
+
+    def names(self) -> re.Pattern:
+        """The names of all its files, without their folder."""
+        number = "" if self.part is None else r"\.[0-9]{3,}"
+        store = re.escape(Path(self.store).name) + number
+        own_map = store + r"\.map" if self.map is None else re.escape(Path(self.map).name) + number
+        return re.compile(f"{store}|{own_map}" if self.has_map else store)
+
     def map_name(self, number: int) -> str:
         return self.store_name(number) + ".map" if self.map is None else self.numbered(self.map, number)
 
@@ -39,8 +54,8 @@ class Part:
     """A file with its rows: how many bytes and rows it has, and the map's rows as long as it isn't done."""
 
     name: str
-    file: BinaryIO
-    map_file: BinaryIO | None
+    file: NewFile
+    map_file: NewFile | None
     size: int = 0
     count: int = 0
     rows: dict[str, MapRow] = field(default_factory=dict)
@@ -56,6 +71,7 @@ class StoreParts:
     def __init__(self, target: Target, prefix: str, files: NewFiles):
         self.target, self.prefix = target, prefix
         self.files, self.parts = files, []
+        clear_killed(target.first_name(), target.folders(), target.names())
         self.begin()
 
     def begin(self) -> Part:

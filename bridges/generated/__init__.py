@@ -1,1 +1,1 @@
-"""What protoc makes of bridges/proto; tools/generate-proto writes it."""
+"""What protoc makes of bridges/proto; it is written by a program of the repository."""

@@ -2,6 +2,8 @@
 import sys
 from typing import BinaryIO
 
+from reference import masking
+
 from kms_bridge import lines
 from kms_bridge.annotations import first_breach
 from kms_bridge.log import WORDS_LIMIT, Log
@@ -48,15 +50,16 @@ class Bridge:
     def _status(self) -> bytes:
         answer = self._plugin.status()
         status = answer.response
-        self._note("status", answer, version=status.version, healthz=status.healthz[:WORDS_LIMIT], key_id=status.key_id)
-        version = "v2" if self._accept_v2beta1 and status.version == "v2beta1" else status.version
-        return lines.status_line(version, status.healthz, status.key_id)
+        healthz = masking.foreign(status.healthz)
+        self._note("status", answer, version=status.version, healthz=healthz[:WORDS_LIMIT], key_id=status.key_id)
+        version = "v2" if self._accept_v2beta1 and status.version == "v2beta1" else masking.foreign(status.version)
+        return lines.status_line(version, healthz, status.key_id)
 
     def _encrypt(self, request: lines.Encrypt) -> bytes:
         answer = self._plugin.encrypt(request.plaintext)
         wrapped = answer.response
         breach = first_breach(wrapped.annotations)
-        why = None if breach is None else f"the annotation key {breach[:WORDS_LIMIT]!r} is no domain name"
+        why = None if breach is None else f"the annotation key {masking.foreign(breach)[:WORDS_LIMIT]!r} is no domain name"
         self._note("encrypt", answer, request.uid, key_id=wrapped.key_id, wrapped=len(wrapped.ciphertext), failed=why)
         if why is not None:
             raise Refused(why)
@@ -91,15 +94,17 @@ class Bridge:
         return lines.error_line(text)
 
     def serve(self, requests: BinaryIO, replies: BinaryIO) -> int:
-        """Answers line by line to the input's end. Answers the program's status."""
-        try:
-            while line := requests.readline(REQUEST_LIMIT + 1):
-                if len(line) > REQUEST_LIMIT:
-                    print(f"kms-bridge: a request has more than {REQUEST_LIMIT} bytes", file=sys.stderr)
-                    return 4
-                replies.write(self.answer(line))
-                replies.flush()
-        except OSError as error:
-            print(f"kms-bridge: {error.strerror}", file=sys.stderr)
-            return 4
-        return 0
+        """Answers line by line to the input's end. Answers the program's status; a fault of what it writes to is the caller's."""
+        while True:
+            try:
+                line = requests.readline(REQUEST_LIMIT + 1)
+            except OSError as error:
+                print(f"kms-bridge: standard input: {error.strerror}", file=sys.stderr)
+                return 4
+            if not line:
+                return 0
+            if len(line) > REQUEST_LIMIT:
+                print(f"kms-bridge: a request has more than {REQUEST_LIMIT} bytes", file=sys.stderr)
+                return 4
+            replies.write(self.answer(line))
+            replies.flush()

@@ -1,16 +1,22 @@
 """The words of the command line, and what each asks for."""
 import argparse
+import os
+import resource
 import signal
 import sys
 from pathlib import Path
 
+from explaining import explain
+from reference import masking
+
 from kms_bridge.bridge import Bridge
 from kms_bridge.durations import seconds_of
-from kms_bridge.endpoints import target_of
+from kms_bridge.endpoints import nobody_at, target_of
 from kms_bridge.log import Log
 from kms_bridge.plugin import Plugin
 from kms_bridge.probe import probe
 from kms_bridge.programs import DEFAULT_TIMEOUT, ConfigRefused, read_entries, write_programs
+from kms_bridge.reader import end_without_reader
 
 RETRIES_LIMIT = 100
 STATUSES = """\
@@ -87,15 +93,20 @@ def _write(asked: argparse.Namespace) -> int:
         entries = read_entries(asked.config.read_text(encoding="utf-8"))
         print("\n".join(write_programs(asked.into, entries, bridge, options)))
     except ConfigRefused as why:
-        print(f"kms-bridge: {asked.config}: {why}", file=sys.stderr)
-        return 1
+        return _ended(1, f"{asked.config}: {why}")
     except UnicodeDecodeError:
-        print(f"kms-bridge: {asked.config}: it isn't UTF-8", file=sys.stderr)
-        return 1
+        return _ended(1, f"{asked.config}: it isn't UTF-8")
     except OSError as error:
-        print(f"kms-bridge: {asked.config}: {error.strerror}", file=sys.stderr)
-        return 4
+        return _ended(4, f"{asked.config}: {error.strerror}")
     return 0
+
+
+def _ended(status: int, why: str) -> int:
+    """The status, with the line that says why."""
+    line = f"kms-bridge: {why}"
+    print(line, file=sys.stderr)
+    explain([line])
+    return status
 
 
 def _ask(asked: argparse.Namespace) -> int:
@@ -107,15 +118,36 @@ def _ask(asked: argparse.Namespace) -> int:
     plugin = Plugin(target_of(asked.endpoint), seconds_of(asked.timeout or DEFAULT_TIMEOUT), asked.retries)
     try:
         if asked.probe:
-            return 0 if probe(plugin, asked.accept_v2beta1) else 1
+            return _probed(asked, plugin)
+        end_without_reader(sys.stdout.fileno())
         return Bridge(plugin, log, asked.accept_v2beta1).serve(sys.stdin.buffer, sys.stdout.buffer)
     finally:
         plugin.close()
+
+
+def _probed(asked: argparse.Namespace, plugin: Plugin) -> int:
+    """A plugin that is asked for the first time is there, or it is said at once where it isn't: nobody waits for it."""
+    nobody = nobody_at(asked.endpoint)
+    if nobody is not None:
+        return _ended(1, f"no plugin listens at {nobody}")
+    return 0 if probe(plugin, asked.accept_v2beta1) else 1
 
 
 def main(words: list[str]) -> int:
     """Does what the words ask. Answers the status."""
     # An interrupt from the terminal ends it as it ends kmsrest, without a report.
     signal.signal(signal.SIGINT, signal.SIG_DFL)
+    masking.guard("kms-bridge")
+    # (what was to be wrapped is left in no file where a signal ends it)
+    resource.setrlimit(resource.RLIMIT_CORE, (0, 0))
     asked = _read_words(words)
-    return _write(asked) if asked.into is not None else _ask(asked)
+    if sys.stdout is None:
+        return _ended(4, "standard output is closed, so nothing could be told; nothing was done")
+    try:
+        status = _write(asked) if asked.into is not None else _ask(asked)
+        sys.stdout.flush()
+        return status
+    except OSError as error:
+        # (what is left in the buffer goes nowhere, and isn't tried again at the end)
+        os.dup2(os.open(os.devnull, os.O_WRONLY), sys.stdout.fileno())
+        return _ended(4, f"standard output: {error.strerror}")

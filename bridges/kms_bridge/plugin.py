@@ -7,6 +7,7 @@ from typing import Any
 
 import grpc
 from generated import kms_pb2
+from reference import masking
 
 SERVICE = "/v2.KeyManagementService/"
 # What a later try may change: nobody was there, or nobody answered in time.
@@ -76,16 +77,17 @@ class Plugin:
     def encrypt(self, plaintext: bytes) -> Answer:
         """Wraps these bytes under its current key."""
         uid = str(uuid.uuid4())
-        return self._ask(self._encrypt, kms_pb2.EncryptRequest(plaintext=plaintext, uid=uid), uid)
+        return self._ask(self._encrypt, kms_pb2.EncryptRequest(plaintext=plaintext, uid=uid), uid, plaintext)
 
     def decrypt(self, ciphertext: bytes, key_id: str, annotations: Mapping[str, bytes]) -> Answer:
         """Unwraps what it wrapped under that key id, with these annotations."""
         uid = str(uuid.uuid4())
         request = kms_pb2.DecryptRequest(ciphertext=ciphertext, uid=uid, key_id=key_id, annotations=annotations)
-        return self._ask(self._decrypt, request, uid)
+        return self._ask(self._decrypt, request, uid, ciphertext, *annotations.values())
 
-    def _ask(self, method: Any, request: Any, uid: str) -> Answer:
-        """Asks up to 1 + retries times, under one uid; each try has the whole timeout."""
+    def _ask(self, method: Any, request: Any, uid: str, *given: bytes) -> Answer:
+        """Asks up to 1 + retries times, under one uid; each try has the whole timeout. The bytes that were given aren't shown where
+        the plugin's words repeat them."""
         began, pause, tries = time.monotonic(), FIRST_PAUSE, 0
         while True:
             tries += 1
@@ -95,6 +97,7 @@ class Plugin:
             except grpc.RpcError as error:
                 if error.code() not in TRIED_AGAIN or tries > self._retries:
                     asking = Asking(uid, tries, time.monotonic() - began)
-                    raise CallFailed(error.code().name, error.details() or "", asking) from None
+                    words = masking.foreign(error.details() or "", given)
+                    raise CallFailed(error.code().name, words, asking) from None
             time.sleep(pause)
             pause = min(2 * pause, MOST_PAUSE)

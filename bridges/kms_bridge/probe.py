@@ -1,6 +1,8 @@
 """Asks each call once, and says of each answer whether the API server, and so kmsrest, would take it."""
 import os
 
+from reference import masking
+
 from kms_bridge.annotations import first_breach
 from kms_bridge.plugin import Answer, CallFailed, Plugin
 
@@ -35,7 +37,7 @@ def _wrapped_breach(ciphertext: bytes, key_id: str, annotations: dict[str, bytes
         return f"the ciphertext hasn't 1 to {WRAPPED_LIMIT} bytes"
     breach = first_breach(annotations)
     if breach is not None:
-        return f"the annotation key {breach!r} is no domain name"
+        return f"the annotation key {masking.foreign(breach)!r} is no domain name"
     if sum(len(key.encode()) + len(value) for key, value in annotations.items()) > ANNOTATIONS_LIMIT:
         return f"the annotations have more than {ANNOTATIONS_LIMIT} bytes"
     return _key_id_breach(key_id)
@@ -49,7 +51,7 @@ def probe(plugin: Plugin, accept_v2beta1: bool) -> bool:
         status = answer.response
         versions = ("v2", "v2beta1") if accept_v2beta1 else ("v2",)
         breach = _status_breach(status.version, status.healthz, status.key_id, versions)
-        words = f"version {status.version!r}, healthz {status.healthz!r}, key id {status.key_id!r}"
+        words = f"version {status.version!r}, healthz {masking.foreign(status.healthz)!r}, key id {status.key_id!r}"
         well = _tell(call, breach, answer, words)
         call = "encrypt"
         seed = os.urandom(SEED_SIZE)

@@ -2,12 +2,15 @@
 import json
 import os
 import shlex
+import stat
 from dataclasses import dataclass
 from pathlib import Path
 from typing import Any
 from urllib.parse import quote
 
 import yaml
+from reference import masking
+from reference.trust import others_who
 
 from kms_bridge.durations import seconds_of
 from kms_bridge.endpoints import target_of
@@ -52,19 +55,20 @@ def _entry(element: Any) -> KmsEntry:
     name, endpoint = members.get("name"), members.get("endpoint")
     timeout = members.get("timeout")
     timeout = DEFAULT_TIMEOUT if timeout is None else timeout
+    shown = masking.name(name)
     if members.get("apiVersion") != "v2":
-        raise ConfigRefused(f"the plugin {name!r} has another apiVersion than v2")
+        raise ConfigRefused(f"the plugin {shown} has another apiVersion than v2")
     if not (isinstance(name, str) and isinstance(endpoint, str) and isinstance(timeout, str)):
-        raise ConfigRefused(f"of the plugin {name!r} the name, the endpoint or the timeout is no text")
+        raise ConfigRefused(f"of the plugin {shown} the name, the endpoint or the timeout is no text")
     if not (1 <= len(name) <= 253 and all("!" <= char <= "~" and char != ":" for char in name)):
-        raise ConfigRefused(f"the plugin {name!r} has no name by the rule")
+        raise ConfigRefused(f"the plugin {shown} has no name by the rule")
     if "=" in name:
-        raise ConfigRefused(f"the plugin {name!r} has a = in its name, and can be given no program")
+        raise ConfigRefused(f"the plugin {shown} has a = in its name, and can be given no program")
     try:
         target_of(endpoint)
         seconds_of(timeout)
     except ValueError as why:
-        raise ConfigRefused(f"the plugin {name!r}: {why}") from None
+        raise ConfigRefused(f"the plugin {shown}: {why}") from None
     return KmsEntry(name, endpoint, timeout)
 
 
@@ -76,7 +80,7 @@ def read_entries(text: str) -> list[KmsEntry]:
             if isinstance(provider, dict) and "kms" in provider:
                 plugin = _entry(provider["kms"])
                 if found.setdefault(plugin.name, plugin) != plugin:
-                    raise ConfigRefused(f"the plugin {plugin.name!r} stands twice, with other words")
+                    raise ConfigRefused(f"the plugin {masking.name(plugin.name)} stands twice, with other words")
     return list(found.values())
 
 
@@ -86,19 +90,51 @@ def _file_name(name: str) -> str:
     return "%2E" + quoted[1:] if quoted.startswith(".") else quoted
 
 
+def _judge(path: Path) -> None:
+    """Refuses what others could change: kmsrest would run it with this user's rights."""
+    why = others_who(path)
+    if why is not None:
+        raise ConfigRefused(f"{why}, and could run another program as you: take a folder of your own, `mkdir -m 700 DIR`")
+
+
+def _is_kept(program: Path, body: str) -> bool:
+    """Whether the program stands there already, with the same words, and for nobody else to change."""
+    try:
+        held = os.open(program, os.O_RDONLY | os.O_NOFOLLOW | os.O_NONBLOCK | os.O_CLOEXEC)
+    except OSError:
+        return False
+    with os.fdopen(held, "rb") as file:
+        if not stat.S_ISREG(os.fstat(held).st_mode) or file.read(len(body.encode()) + 1) != body.encode():
+            return False
+    _judge(program)
+    return True
+
+
+def _write(program: Path, body: str) -> None:
+    made = os.open(program, os.O_WRONLY | os.O_CREAT | os.O_EXCL | os.O_CLOEXEC, 0o700)
+    try:
+        with os.fdopen(made, "w", encoding="utf-8") as file:
+            file.write(body)
+    except OSError:
+        # (a part of a program would stand in the way of the whole one)
+        program.unlink()
+        raise
+
+
 def write_programs(folder: Path, entries: list[KmsEntry], bridge: Path, options: list[str]) -> list[str]:
-    """Writes the programs, and answers the words for kmsrest. Another file of a program's name is kept."""
+    """Writes the programs, and answers the words for kmsrest. Another file of a program's name is kept, and nothing is written
+    where others could change it."""
     words = []
     for entry in entries:
         program = folder / _file_name(entry.name)
         call = [str(bridge), "--endpoint", entry.endpoint, "--timeout", entry.timeout, *options]
         body = f"#!/bin/sh\n# The plugin {entry.name} of kmsrest, by kms-bridge.\nexec {shlex.join(call)}\n"
         try:
+            _judge(folder)
             folder.mkdir(mode=0o700, parents=True, exist_ok=True)
-            if not (program.is_file() and program.read_text(encoding="utf-8", errors="replace") == body):
-                made = os.open(program, os.O_WRONLY | os.O_CREAT | os.O_EXCL, 0o700)
-                with os.fdopen(made, "w", encoding="utf-8") as file:
-                    file.write(body)
+            _judge(folder)
+            if not _is_kept(program, body):
+                _write(program, body)
         except FileExistsError:
             raise ConfigRefused(f"{program} is there, with other words; remove it first") from None
         except OSError as error:

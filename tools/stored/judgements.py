@@ -1,7 +1,7 @@
 """Writes the stored run of test_judge, crates/test_judge/stdin and stdout; with the word `check` it compares them instead.
 
 The calls are written here, some by hand and the rest drawn with a fixed seed. What they answer is found by going through
-plain lists of generations and needs, on the configurations that tools/stored/reference reads; the program itself is never asked.
+plain lists of generations and needs, on the configurations that reference/ reads; the program itself is never asked.
 The lines are those at the head of crates/test_judge/src/acting.rt.
 """
 

@@ -1,7 +1,7 @@
 """Writes the stored run of test_rollout, crates/test_rollout/stdin and stdout; with the word `check` it compares them instead.
 
 The lines are written here, the worked cases by hand and the rest drawn with a fixed seed. What they answer is found by the
-table of steps as it is written here, over a plain list of rows and the board of tools/stored/reference, which goes through all
+table of steps as it is written here, over a plain list of rows and the board of reference/, which goes through all
 needs and generations; the program itself is never asked. A sealed value is kept as its provider and its data: of its bytes
 only their number is printed. The lines are those at the heads of crates/test_rollout/src/reading.rt and asking.rt.
 """

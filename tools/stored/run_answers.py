@@ -1,4 +1,4 @@
-"""What the cases of test_run leave, by the implementation in tools/stored/reference, which shares nothing with the Rattle code.
+"""What the cases of test_run leave, by the implementation in reference/, which shares nothing with the Rattle code.
 
 With no word it reads cases from standard input and prints a line for each, as test_run does. With `check` it compares the
 stored answers, crates/test_run/stdout, with what it makes of the stored cases; with `write` it writes them. A case is:
@@ -170,7 +170,7 @@ def main():
     if wanted != stored:
         print("not so:", *(differing[0] if differing else ("the number of answers",)), sep="\n", file=sys.stderr)
         return 1
-    print(f"the stored answers of test_run are those of tools/stored/reference for {wanted.count(chr(10))} calls")
+    print(f"the stored answers of test_run are those of reference/ for {wanted.count(chr(10))} calls")
     return 0
 
 

@@ -8,9 +8,9 @@ from pathlib import Path
 from support import TOP
 
 # What takes a text that a person reads: errors, troubles, and what is printed.
-TAKERS = {"Refused", "NoAnswer", "TooLarge", "kind", "ConfigRefused", "NoRequest", "print", "add", "ArgumentTypeError", "_tell"}
+TAKERS = {"Refused", "NoAnswer", "TooLarge", "kind", "ConfigRefused", "NoRequest", "print", "add", "ArgumentTypeError", "_tell", "say", "tell", "OutputFailed"}
 # Functions that answer such a text.
-ANSWERERS = {"unfit", "first_breach", "_status_breach", "_wrapped_breach", "_key_id_breach"}
+ANSWERERS = {"lines", "worn", "unfit", "first_breach", "_status_breach", "_wrapped_breach", "_key_id_breach"}
 # What may stand in a text's holes.
 FILLINGS = ("x", "7", "No such file or directory", "UNAVAILABLE", "the key has a space")
 # How a text of these takers and answerers becomes a line.
@@ -38,8 +38,15 @@ def holes(node: ast.expr) -> list[str | None]:
 
 
 def texts(node: ast.expr) -> list[list[str | None]]:
+    """What an expression may be: of a list, or what is made of one, its parts."""
     if isinstance(node, ast.IfExp):
         return texts(node.body) + texts(node.orelse)
+    if isinstance(node, ast.List):
+        return [text for part in node.elts for text in texts(part)]
+    if isinstance(node, (ast.GeneratorExp, ast.ListComp)):
+        return texts(node.elt)
+    if isinstance(node, ast.Starred):
+        return texts(node.value)
     return [holes(node)]
 
 
@@ -68,7 +75,8 @@ def of_module(path: Path) -> Iterator[tuple[str, list[str | None]]]:
         if isinstance(node, ast.Call):
             yield from ((name_of(node), text) for text in spoken(node))
         elif isinstance(node, ast.FunctionDef) and node.name in ANSWERERS:
-            returned = [one.value for one in ast.walk(node) if isinstance(one, ast.Return) and one.value is not None]
+            ends = (ast.Return, ast.Yield, ast.YieldFrom)
+            returned = [one.value for one in ast.walk(node) if isinstance(one, ends) and one.value is not None]
             yield from ((node.name, text) for value in returned for text in texts(value))
 
 

@@ -8,6 +8,8 @@ from support import TOP, Checks, Ended
 
 ROTATION = TOP / "examples" / "rotation"
 OLD, BOTH, NEW, LAST = (ROTATION / f"{name}.yaml" for name in ("old", "both", "new", "last"))
+# What names the providers that audits are asked for: key1 and key2, and the plugin p.
+NAMING = ("--config", NEW, "--config", TOP / "examples" / "kms.yaml")
 IMPORT, EXPORT, AUDIT = "etcd-to-store", "store-to-etcd", "etcd-audit"
 
 
@@ -39,7 +41,7 @@ class Bench:
 
     def still(self, prefix: str, *providers: str) -> tuple[int, list[str]]:
         """The status of an audit, and those of the providers of which it finds values."""
-        done = self.etcd.bridge(AUDIT, "--prefix", prefix, *(word for it in providers for word in ("--still", it)))
+        done = self.etcd.bridge(AUDIT, "--prefix", prefix, *NAMING, *(word for it in providers for word in ("--still", it)))
         told = [line.removeprefix("etcd-audit: still ") for line in done.errors.splitlines()]
         return done.status, [line.rsplit(": ", 1)[0] for line in told]
 

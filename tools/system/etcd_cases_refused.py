@@ -1,7 +1,7 @@
 """What the bridges refuse, and what they count."""
 import json
 
-from etcd_bench import AUDIT, LAST, NEW, Bench, numbers
+from etcd_bench import AUDIT, LAST, NAMING, NEW, Bench, numbers
 from etcd_server import kmsrest
 from etcd_values import KEY1, KEY2, aescbc, an_object
 
@@ -89,7 +89,7 @@ def nobody(bench: Bench) -> None:
         why = "no key stands below /nobody/, and the first key is /"
         found = (done.status, bench.at("nobody").exists(), why in done.errors, "nothing was written" in done.errors)
         bench.expect(f"an import of a prefix without keys is refused {way}", (1, False, True, True), found)
-        done = bench.etcd.bridge(AUDIT, *words, "--still", "aescbc:key1", **way)
+        done = bench.etcd.bridge(AUDIT, *words, *NAMING, "--still", "aescbc:key1", **way)
         found = (done.status, done.output, why in done.errors, "nothing was written" in done.errors)
         bench.expect(f"an audit of it too {way}", (1, b"", True, False), found)
     words = ("--prefix", "/imports", "--only", "pods")
@@ -129,7 +129,15 @@ def wrong_maps(bench: Bench) -> None:
     maps = [
         ("a map that lacks a row", "".join(lines[:-1]), "is torn: it has 3 rows of 4"),
         ("a map whose last line is cut", good[:-20], "is torn: its last line has no end"),
-        ("a map of another version", changed(0, map=2), "is of version 2"),
+        ("a map of another version", changed(0, map=3), "is of version 3, and not 1 or 2"),
+        ("a revision that etcd can't have", changed(1, mod=2**63), "a member mod that breaks its rule"),
+        ("one that isn't above zero", changed(2, create=0), "a member create that breaks its rule"),
+        ("one that is a text", changed(1, mod="3"), "a member mod that breaks its rule"),
+        ("one that is a truth", changed(1, mod=True), "a member mod that breaks its rule"),
+        ("a row without the key's making", changed(1).replace('"create"', '"made"', 1), "hasn't the members"),
+        ("a prefix that is no text", changed(0, prefix="\ud800"), "a member prefix that breaks its rule"),
+        ("a cluster that is no id", changed(0, cluster="one"), "a member cluster that breaks its rule"),
+        ("JSON in JSON without an end", "[" * 100_000 + "\n", "is no JSON"),
         ("another cluster", changed(0, cluster="1234"), "and not 1234"),
         ("a path that the map hasn't", changed(0, rows=3).replace(lines[-1], ""), "the map hasn't this path"),
         ("another resource", changed(1, resource="configmaps"), "the store has it as secrets, the map as configmaps"),
@@ -177,6 +185,14 @@ def exports(bench: Bench) -> None:
     bench.expect("nothing of all that was written", count, sealed)
 
 
+def naming_all(bench: Bench) -> tuple[object, ...]:
+    """Words that name key1 to key3 of aescbc, key1 of aesgcm, and the plugin p."""
+    more = bench.at("named.yaml")
+    text = NEW.read_text(encoding="utf-8")
+    more.write_text(text.replace("name: key2", "name: key3").replace("      - aescbc", "      - aesgcm:\n          keys:\n            - name: key1\n              secret: AAECAwQFBgcICQoLDA0ODw==\n      - aescbc"))
+    return (*NAMING, "--config", more)
+
+
 def audits(bench: Bench) -> None:
     """Counts in three forms, and the question whether a key may go."""
     prefix = "/audit"
@@ -197,12 +213,22 @@ def audits(bench: Bench) -> None:
     line = 'kmsrest_stored_values{resource="secrets",provider="kms:p",key_id="k \\"1"} 1'
     bench.expect("audit: prometheus", True, line in audit("--output", "prometheus").output.decode().splitlines())
     asked = ["aescbc:key1", "aescbc:key3", "kms:p", 'kms:p@k "1', "kms:p@k2", "plain", "identity", "aesgcm:key1"]
-    done = audit(*(word for still in asked for word in ("--still", still)))
+    naming = naming_all(bench)
+    done = audit(*naming, *(word for still in asked for word in ("--still", still)))
     found = [line.removeprefix("etcd-audit: still ") for line in done.errors.splitlines()]
     wanted = ["aescbc:key1: 1", "kms:p: 1", 'kms:p@k "1: 1', "plain: 1", "plain: 1"]
     bench.expect("audit: --still", (1, wanted), (done.status, found))
-    done = audit("--still", "aescbc:key3", "--still", "kms:p@k2")
+    done = audit(*naming, "--still", "aescbc:key3", "--still", "kms:p@k2")
     bench.expect("audit: --still of what isn't there", 0, done.status)
+    bench.expect("audit: --still of what needs no configuration", (0, 1), (audit("--still", "aesgcm:key1", *naming).status, audit("--still", "plain").status))
+    done = audit("--still", "aescbc:key3")
+    bench.expect("audit: --still without a configuration", (2, True), (done.status, "wants --config C" in done.errors))
+    done = audit(*NAMING, "--still", "aescbc:key01")
+    bench.expect("audit: --still of a slip", (2, True), (done.status, "no --config names it; one names aescbc:key1" in done.errors))
+    done = audit(*NAMING, "--still", "aescbc:key1@k1")
+    bench.expect("audit: --still of a cipher's key id", (2, True), (done.status, "a plugin alone have a key id" in done.errors))
+    done = audit("--config", bench.at("nowhere"), "--still", "aescbc:key1")
+    bench.expect("audit: a configuration that isn't there", (1, True), (done.status, "No such file" in done.errors))
     bench.expect("audit: --only", "1 configmaps plain\n", audit("--only", "configmaps").output.decode())
     bench.expect("audit: wrong words", [2, 2], [audit("--still", "key1").status, audit("--output", "xml").status])
     both = bench.etcd.bridge("etcd-audit", "--prefix", prefix, ETCDCTL="etcdctl").output.decode()

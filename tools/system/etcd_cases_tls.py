@@ -1,7 +1,7 @@
 """Mutual TLS, and an etcd that doesn't answer."""
 from concurrent.futures import ThreadPoolExecutor
 
-from etcd_bench import AUDIT, IMPORT, NEW, Bench, numbers
+from etcd_bench import AUDIT, IMPORT, NAMING, NEW, Bench, numbers
 from etcd_server import Certificates, EtcdServer, free_port
 
 
@@ -17,7 +17,7 @@ def mutual(bench: Bench) -> None:
             inside.rewritten(way, NEW)
             done = inside.exported(way, "--verify", NEW, **environment)
             bench.expect(f"mutual TLS: an export by {way}", (0, 8), (done.status, numbers(done)["written"]))
-            done = etcd.bridge(AUDIT, "--prefix", prefix, "--still", "aescbc:key1", **environment)
+            done = etcd.bridge(AUDIT, "--prefix", prefix, "--still", "aescbc:key1", *NAMING, **environment)
             bench.expect(f"mutual TLS: an audit by {way}", 0, done.status)
         no_certificate = {"ETCDCTL_CERT": "", "ETCDCTL_KEY": ""}
         calls = [

@@ -65,6 +65,7 @@ class EtcdServer:
         began = time.monotonic()
         while self.etcdctl("endpoint", "health").status != 0:
             if time.monotonic() - began > PATIENCE or self.process.poll() is not None:
+                self.stop()
                 raise RuntimeError(f"etcd doesn't serve: {(self.folder / 'log').read_text()[-400:]}")
             time.sleep(0.1)
         return self

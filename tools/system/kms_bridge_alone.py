@@ -1,6 +1,8 @@
 """The bridge by itself: its rules, its lines, its probe, and the programs that it writes."""
 import base64
 import json
+import os
+import subprocess
 import sys
 from pathlib import Path
 
@@ -140,8 +142,78 @@ def _check_programs(checks: Checks, folder: Path) -> None:
         checks.expect(f"broken {what} is refused, and its line isn't shown", (1, False), found)
 
 
+NOBODY = 65534
+
+
+def _into_folder(folder: Path, into: Path):
+    (folder / "config").write_text(CONFIG, encoding="utf-8")
+    return call([BRIDGE, "--into", into, "--config", folder / "config"])
+
+
+def _check_others(checks: Checks, folder: Path) -> None:
+    """Folders and programs that others may write, or own, are refused; one's own folder in a sticky one is none."""
+    room = folder / "others"
+    room.mkdir(mode=0o755)
+    for name, mode in [("open", 0o777), ("group", 0o770), ("sticky", 0o1777), ("mine", 0o700)]:
+        (room / name).mkdir()
+        (room / name).chmod(mode)
+    (room / "sticky" / "mine").mkdir(mode=0o700)
+    (room / "mine" / "link").symlink_to("../open")
+    (room / "open" / "below").mkdir(mode=0o700)
+    refused = ["open", "group", "open/below", "open/new", "mine/link", "mine/link/below", "mine/../open"]
+    if os.geteuid() == 0:
+        for name in ("theirs", "sticky/theirs"):
+            (room / name).mkdir(mode=0o700)
+            os.chown(room / name, NOBODY, NOBODY)
+        refused += ["theirs", "sticky/theirs", "sticky/theirs/below"]
+    found = {name: _into_folder(folder, room / name) for name in refused}
+    checks.expect("folders that others write or own are refused", {name: (1, "") for name in refused},
+                  {name: _refusal(done) for name, done in found.items()})
+    checks.expect("and each is told", [], [name for name, done in found.items() if "could run another program as you" not in done.errors])
+    checks.expect("and nothing is written there", [], [path for path in room.rglob("p") if path.is_file()])
+    taken = ["mine", "mine/deeper/new", "sticky/mine", "sticky/new"]
+    checks.expect("one's own folders are taken", {name: 0 for name in taken},
+                  {name: _into_folder(folder, room / name).status for name in taken})
+    program = room / "mine" / "p"
+    checks.expect("a program that stands there is kept", 0, _into_folder(folder, room / "mine").status)
+    program.chmod(0o722)
+    checks.expect("but not one that others may write", (1, ""), _refusal(_into_folder(folder, room / "mine")))
+    program.chmod(0o700)
+    if os.geteuid() == 0:
+        os.chown(program, NOBODY, NOBODY)
+        checks.expect("nor one that another owns, with the same bytes", (1, ""), _refusal(_into_folder(folder, room / "mine")))
+        os.chown(program, 0, 0)
+    other = room / "mine" / "other"
+    other.write_bytes(program.read_bytes())
+    program.unlink()
+    program.symlink_to(other)
+    checks.expect("nor one behind a link", (1, ""), _refusal(_into_folder(folder, room / "mine")))
+
+
 def _refusal(done) -> tuple[int, str]:
     return done.status, done.output.decode()
+
+
+def _check_reader(checks: Checks, server: KmsServer, endpoint: str) -> None:
+    """A bridge that waits for its plugin ends once nobody reads its answers; one whose answers are read answers all."""
+    server.says(troubles=[{"call": "Encrypt", "do": "hang"}])
+    words = [str(BRIDGE), "--endpoint", endpoint, "--timeout", "300s"]
+    child = subprocess.Popen(words, stdin=subprocess.PIPE, stdout=subprocess.PIPE)
+    child.stdin.write(b'{"call":"status"}\n{"call":"encrypt","plaintext":"AAAA","uid":"1"}\n')
+    child.stdin.flush()
+    checks.expect("a bridge answers", True, child.stdout.readline().startswith(b'{"healthz"'))
+    child.stdout.close()
+    checks.expect("and ends with its reader, while its plugin says nothing", 4, child.wait(30))
+    server.says()
+    found = _answers(endpoint, [{"call": "status"}] * 3)
+    checks.expect("one whose input has ended answers all the same", 3, len(found))
+    with open("/dev/full", "wb") as full:
+        for what, more in (("a probe", ["--probe"]), ("answers", [])):
+            done = subprocess.run([*words[:3], *more], input=b'{"call":"status"}\n', stdout=full, stderr=subprocess.PIPE, check=False)
+            line = done.stderr.decode()
+            checks.expect(f"a full output: {what}", (4, True), (done.returncode, line == "kms-bridge: standard output: No space left on device\n"))
+    done = subprocess.run([*words[:3], "--probe"], stdout=None, stderr=subprocess.PIPE, preexec_fn=lambda: os.close(1), check=False)
+    checks.expect("a closed output", (4, True), (done.returncode, b"standard output is closed" in done.stderr))
 
 
 def check(checks: Checks, folder: Path) -> None:
@@ -149,7 +221,9 @@ def check(checks: Checks, folder: Path) -> None:
     _check_rules(checks)
     _check_words(checks)
     _check_programs(checks, folder)
+    _check_others(checks, folder)
     with running(KmsServer(folder, "alone", f"unix:{folder}/alone.sock")) as server:
         endpoint = f"unix://{folder}/alone.sock"
         _check_lines(checks, server, endpoint)
         _check_probe(checks, server, endpoint)
+        _check_reader(checks, server, endpoint)

@@ -91,14 +91,15 @@ def _check_wrappers(checks: Checks, folder: Path) -> None:
 
 
 def _check_core_dumps(checks: Checks, folder: Path) -> None:
-    """The script's own limit, over a program that tells it; the script takes it as built, as nothing here is newer."""
+    """The script's own limit, over a program that tells it, as one that is installed."""
     top = folder / "top"
-    built = top / "crates" / "kmsrest" / "out"
-    built.mkdir(parents=True)
-    for name in ("kmsrest", "crates.txt"):
+    (top / "libexec").mkdir(parents=True)
+    for name in ("front", "help"):
+        shutil.copytree(TOP / name, top / name)
+    for name in ("kmsrest", "VERSION"):
         shutil.copy(TOP / name, top / name)
-    _make(built / "kmsrest", "#!/bin/sh\nulimit -S -c\nulimit -H -c\n")
-    checks.expect("./kmsrest turns core dumps off", b"0\n0\n", call([top / "kmsrest"]).output)
+    _make(top / "libexec" / "kmsrest", "#!/bin/sh\nulimit -S -c\nulimit -H -c\n")
+    checks.expect("./kmsrest turns core dumps off", b"0\n0\n", call([top / "kmsrest", "list"]).output)
 
 
 def check(checks: Checks, folder: Path) -> None:

@@ -1,3 +1,19 @@
 -- Lemmas of this crate.
 pub mod Boards
 pub mod Rounds
+pub mod Passes
+pub mod Runs
+pub mod Lives
+pub mod Settling
+pub mod Writing
+pub mod Rounding
+pub mod WholePlan
+pub mod OneReplica
+pub mod PassThenPut
+pub mod PathRows
+pub mod NoEmptyPath
+pub mod Rewriting
+pub mod Serving
+pub mod Keyed
+pub mod KeysRewritten
+pub mod PlanDone

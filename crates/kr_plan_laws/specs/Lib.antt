@@ -2,3 +2,10 @@
 pub mod PlannedStates
 pub mod PlannedLaws
 pub mod Rounds
+pub mod PassLaws
+pub mod Settled
+pub mod LiveStates
+pub mod LivePlans
+pub mod WholePlans
+pub mod Rewritten
+pub mod Refreshed

@@ -8,7 +8,7 @@ use std::sync::Wait;
 use std::test::Fail;
 use std::thread::Threads;
 
-/// What is written where the first put of a worker fails, by tools/stored/reference/load.py.
+/// What is written where the first put of a worker fails, by reference/load.py.
 const BEGIN: &str = "gen 1 2\nputs 7\ngets 7\ndigest ";
 
 const DIGESTS: [&str; 4] = [

@@ -1,0 +1,1 @@
+"""A rollout tried over a copy of a store."""
