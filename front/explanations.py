@@ -9,8 +9,9 @@ from pathlib import Path
 import outcomes
 
 EXPLAIN = Path(__file__).resolve().parent.parent / "help" / "explain"
-# Seconds that looking at the call's files may take; what `explain` is asked by hand has no limit.
-PATIENCE = 5
+# So many seconds of a processor, and so many by the clock of a busy machine, looking at the call's files may take; what `explain` is
+# asked by hand has no limit.
+LIMITS = ((signal.ITIMER_PROF, signal.SIGPROF, 5), (signal.ITIMER_REAL, signal.SIGALRM, 60))
 # Statuses of calls that failed. A status above is a signal's or the script's own.
 FAILED = range(1, 7)
 # How many lines are explained where a call has several: a bridge that is a plugin writes lines of its own before the program's.
@@ -57,8 +58,9 @@ def after(call, status, errors):
 
 def answers(lines, call):
     """What `explain` says of the lines that a function gives, each answer once, within the time that a person waits."""
-    before = signal.signal(signal.SIGALRM, give_up)
-    signal.setitimer(signal.ITIMER_REAL, PATIENCE)
+    before = [signal.signal(number, give_up) for _timer, number, _seconds in LIMITS]
+    for timer, _number, seconds in LIMITS:
+        signal.setitimer(timer, seconds)
     try:
         answer_to, told = explainer().answer_to, []
         for line in lines():
@@ -69,5 +71,6 @@ def answers(lines, call):
     except TooLong:
         return [LATER]
     finally:
-        signal.setitimer(signal.ITIMER_REAL, 0)
-        signal.signal(signal.SIGALRM, before)
+        for (timer, number, _seconds), handler in zip(LIMITS, before):
+            signal.setitimer(timer, 0)
+            signal.signal(number, handler)

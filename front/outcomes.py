@@ -9,15 +9,15 @@ from reference.calls import Stop, board_of
 BY_OUTPUT = {
     "verify": (
         "this configuration can't read some objects: the lines with `refused` name them",
-        "kmsrest explain 'LINE', with such a line and the call's words, tells its causes; give the configuration the key that wrote them",
+        "kmsrest explain 'LINE', with such a line and the call's words, names its causes; give the configuration the key that wrote them",
     ),
     "rewrite": (
         "some objects are stored as before, by their old key: `left` counts them",
         "kmsrest verify with the same words names each that is refused, and why; one that it calls stale has data that can't be sealed",
     ),
-    "fleet": ("a worker's line didn't do what it says: its reply tells", "kmsrest explain 'LINE', with that reply and the call's words, tells more"),
-    "watch": ("a worker's line failed, or the revision isn't there: the output tells", "kmsrest explain 'LINE', with that line and the call's words, tells more"),
-    "gen": ("a worker's line failed: the summary counts them", "kmsrest explain 'LINE', with a line of the output, tells more"),
+    "fleet": ("a worker's line didn't do what it says: its reply says why", "kmsrest explain 'LINE', with that reply and the call's words, says more"),
+    "watch": ("a worker's line failed, or the revision isn't there: the output says which", "kmsrest explain 'LINE', with that line and the call's words, says more"),
+    "gen": ("a worker's line failed: the summary counts them", "kmsrest explain 'LINE', with a line of the output, says more"),
 }
 
 

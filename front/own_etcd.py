@@ -9,6 +9,9 @@ import urllib.request
 from pathlib import Path
 
 PATIENCE = 60
+# How often another port is taken where somebody else has begun to listen at one.
+PORTS = 5
+TAKEN = "address already in use"
 # (the end of a child by the end of its parent, of prctl)
 PARENT_ENDS = 1
 
@@ -33,10 +36,27 @@ class OwnEtcd:
     """An etcd of one member, which serves within the `with` block at `endpoint`."""
 
     def __init__(self, folder: Path):
-        self.folder, self.endpoint, self.process = folder, f"http://127.0.0.1:{free_port()}", None
+        self.folder, self.endpoint, self.process = folder, "", None
 
     def __enter__(self) -> "OwnEtcd":
         self.folder.mkdir()
+        return self.at_free_port(PORTS)
+
+    def at_free_port(self, ports: int) -> "OwnEtcd":
+        """It serves at one of so many ports, each of which was free when it was looked at."""
+        self.endpoint = f"http://127.0.0.1:{free_port()}"
+        try:
+            return self.started()
+        except CannotServe:
+            if ports > 1 and TAKEN in self.log():
+                return self.at_free_port(ports - 1)
+            raise
+
+    def log(self) -> str:
+        return (self.folder / "log").read_text(errors="replace")
+
+    def started(self) -> "OwnEtcd":
+        """It serves at its endpoint."""
         words = ["etcd", "--data-dir", "data", "--listen-client-urls", self.endpoint, "--advertise-client-urls", self.endpoint]
         words += [
             "--listen-peer-urls",
@@ -68,7 +88,7 @@ class OwnEtcd:
         began = time.monotonic()
         while not self.serves():
             if self.process.poll() is not None or time.monotonic() - began > PATIENCE:
-                told = (self.folder / "log").read_text(errors="replace").splitlines()[-1:]
+                told = self.log().splitlines()[-1:]
                 raise CannotServe(f"etcd doesn't serve: {''.join(told)[:300]}")
             time.sleep(0.1)
 

@@ -74,12 +74,20 @@ def told(no):
 
 
 def refused_words(call):
-    """Why the words mean no such call, or None."""
+    """Why the words mean no such call, or where its files would be written over; or None."""
     if len(call.options["files"]) > 1 or not call.one("files"):
         return Refused("--files FOLDER names one folder", USAGE)
     if "show" in call.options:
         return Refused("--show prints one configuration, and --files writes all: one of the two", USAGE)
-    return None
+    return taken(Path(call.one("files")))
+
+
+def taken(folder):
+    """What of the files is there already, before a plan is printed that would then not be written; or None."""
+    if folder.exists() and not folder.is_dir():
+        return Refused(f"{folder} is no folder", FAILED)
+    there = [folder / step.file for step in STEPS if os.path.lexists(folder / step.file)]
+    return Refused(f"{there[0]} is there already, and nothing is written over", FAILED) if there else None
 
 
 def texts(call, program):

@@ -44,8 +44,8 @@ def not_written_back(call):
         return []
     rows_more = "1 row" if more == 1 else f"{more} rows"
     return [
-        f"remark: {name} has {rows_more} more than were imported, and nothing says that they were written back: etcd has what was there "
-        f"before, until store-to-etcd --store {name} is done"
+        f"remark: {name} has {rows_more} more than were imported, and nothing says that they were written back: etcd keeps the old values "
+        f"until store-to-etcd --store {name} is done"
     ]
 
 
@@ -75,5 +75,5 @@ def own_writes(call):
         of = ", ".join(classes[:3]) + (", .." if len(classes) > 3 else "")
         yield (
             f"remark: API server {number} still writes by {writer} ({of}), which {name} doesn't read: a write before its restart can't be "
-            "read behind it. Turn first, by a file that writes anew and still reads this, or do what `plan` says"
+            "read afterwards. Turn first, with a file that writes with the new key and still reads this one, or follow `plan`"
         )

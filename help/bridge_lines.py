@@ -14,7 +14,7 @@ OPENERS = ("etcd-to-store", "store-to-etcd")
 UNOPENED = "docs/OPERATORS.md, 'A value that can't be opened': import without --config, and `kmsrest verify` names each such value"
 ANEW = "remove the store and its map, and begin with etcd-to-store again"
 ASK = "`etcdctl endpoint health` asks with the same environment; https or http in ETCDCTL_ENDPOINTS, and the three certificates"
-RIGHTS = "where it lacks a user or a right: ETCDCTL_USER, and docs/OPERATORS.md, 'What you need'"
+RIGHTS = "if a user or a right is missing: ETCDCTL_USER, and docs/OPERATORS.md, 'What you need'"
 PACKAGES = "install Debian's packages of these names, or your system's (docs/OPERATORS.md, 'What you need')"
 FIRST = "write one object through an API server, and count by etcd-audit: sealed, call again; plain, take the resource out of the entry"
 BRIDGE_WORDS = "`bridges/{} --help` shows its words"
@@ -23,17 +23,17 @@ BRIDGE_WORDS = "`bridges/{} --help` shows its words"
 FORMS = [
     # ---- etcd itself
     (("store-to-etcd",), "the plugin * gave no answer within # seconds", "the program of the plugin {0} was asked, and said nothing for {1} seconds", "look at the plugin and its key service; nothing was written"),
-    (ETCD, "ETCDCTL_ENDPOINTS names no endpoint", "ETCDCTL_ENDPOINTS is set, and nothing but commas stands in it", "name one, or unset it: without it 127.0.0.1:2379 is asked"),
+    (ETCD, "ETCDCTL_ENDPOINTS names no endpoint", "ETCDCTL_ENDPOINTS is set, and nothing but commas is in it", "name one, or unset it: without it 127.0.0.1:2379 is asked"),
     (ETCD, "ETCDCTL_* is set, and ETCDCTL_* isn't: a client's certificate and its key go together", "ETCDCTL_{0} alone is no certificate of a client", "set ETCDCTL_{1} too"),
-    (ETCD, "ETCDCTL_CACERT names no certificate in PEM", "what ETCDCTL_CACERT names isn't etcd's authority", "name its certificate, as /etc/kubernetes/pki/etcd/ca.crt"),
+    (ETCD, "ETCDCTL_CACERT names no certificate in PEM", "the file of ETCDCTL_CACERT isn't etcd's CA", "name its certificate, as /etc/kubernetes/pki/etcd/ca.crt"),
     (ETCD, "ETCDCTL_CERT and ETCDCTL_KEY are no certificate in PEM with its key, or don't go together", "the two files that ETCDCTL_CERT and ETCDCTL_KEY name can't be used as a client's certificate", "name a certificate and its own key, without a password: server.crt and server.key of /etc/kubernetes/pki/etcd"),
     (ETCD, "etcd tells more than # keys", "etcd goes on without an end", "is something between the bridge and etcd? ask the endpoint itself"),
     (ETCD, "etcd gives no answer: *: *", "no endpoint of ETCDCTL_ENDPOINTS gave an answer ({0})", ASK),
-    (ETCD, "etcd refuses: *: *has been compacted*", "what was to be read was compacted away meanwhile", "begin again; a larger --page, or --only, reads quicker"),
+    (ETCD, "etcd refuses: *: *has been compacted*", "etcd compacted the revision meanwhile", "begin again; a larger --page, or --only, reads faster"),
     (ETCD, "etcd refuses: *: *", "etcd answers, and refuses ({0}: {1})", RIGHTS),
     (ETCD, "etcd refuses a transaction though all that it compares holds", "etcd answers what can't be", "is something between the bridge and etcd? ask the endpoint itself"),
     (ETCD, "* gave no answer in # seconds", "{0} was called for etcd, and didn't end within {1} seconds", ASK),
-    (ETCD, "* ended with #: *permission denied*", "etcd answers, and refuses: the user lacks the right", RIGHTS),
+    (ETCD, "* ended with #: *permission denied*", "etcd answers, and refuses: the user doesn't have the right", RIGHTS),
     (ETCD, "* ended with #: *", "{0} was called for etcd, and failed: {2}", ASK),
     (ETCD, "the endpoints are of several clusters, * and *", "ETCDCTL_ENDPOINTS names etcds of two clusters", "name those of one cluster alone"),
     (ETCD, "* names no endpoint that answers: *", "{0} was asked which cluster each endpoint is of, and none answers: {1}", ASK),
@@ -46,7 +46,7 @@ FORMS = [
     (ETCD, "*, and there is no etcdctl", "etcd can be asked neither by gRPC ({0}) nor by etcdctl", PACKAGES),
     (ETCD, "etcdctl can't be asked for keys from one on that holds a NUL", "a key has a zero byte, and etcdctl takes no such word", "read by gRPC: install python3-grpcio"),
     (ETCD, "* writes no JSON of etcdctl", "what {0} holds or writes isn't JSON as `etcdctl -w json` writes it", "write the file by: etcdctl get --prefix /registry/ -w json"),
-    (READERS, "* has the key * twice", "{0} isn't what `etcdctl get -w json` writes: the key {1} stands there twice", "write it by: etcdctl get --prefix /registry/ -w json"),
+    (READERS, "* has the key * twice", "{0} isn't what `etcdctl get -w json` writes: the key {1} is there twice", "write it by: etcdctl get --prefix /registry/ -w json"),
     (ETCD, "the JSON has a key without its bytes, its value or its revisions", "the JSON isn't what `etcdctl get -w json` writes", "write it by: etcdctl get --prefix /registry/ -w json"),
     (ETCD, "ETCDCTL_*: *: *", "the file that ETCDCTL_{0} names can't be read: {2}", "name a file that is there, and run as a user who may read it (root for /etc/kubernetes/pki/etcd)"),
     # ---- what is read
@@ -57,7 +57,7 @@ FORMS = [
     (READERS, "* can't be restored: *", "etcd doesn't take {0} as a snapshot: {1}", "is it whole, and of an etcd as new as this one? `etcdctl snapshot status` tells"),
     (READERS, "etcd doesn't serve the snapshot's copy: *", "the etcd over the snapshot's copy doesn't begin to serve: {0}", "is there room in TMPDIR?"),
     # ---- etcd-to-store
-    (("etcd-to-store",), "*: the place * is unknown: --resource *=RESOURCE says what it holds", "nobody told which resource is stored below {1}, of which {0} is a key", "--resource {1}=RESOURCE, as the API server's group and plural; or --except, --only"),
+    (("etcd-to-store",), "*: the place * is unknown: --resource *=RESOURCE says what it holds", "nobody told which resource is stored below {1}, where {0} is a key", "--resource {1}=RESOURCE, as the API server's group and plural; or --except, --only"),
     (("etcd-to-store",), "*: the key has *", "no store can hold this key: it has {1}", "--leave-out copies the rest; this object then stays as it is in etcd"),
     (("etcd-to-store",), "*: the value has more than # bytes*", "no store can hold this value: it has more than {1} bytes", "--leave-out copies the rest; this object then stays as it is in etcd"),
     (("etcd-to-store",), "(and # more: *)", "so do {0} values more", "the lines before name the first ten"),
@@ -101,8 +101,9 @@ FORMS = [
     (("store-to-etcd",), "changed *", "somebody wrote or deleted {0} since the import; it stays as it is", "begin with etcd-to-store again, under another name: a second round takes it"),
     (("store-to-etcd",), "refused * *", "etcd doesn't take the value of {0}: {1}", "it is too large for etcd's --max-request-bytes; it stays as it is, sealed by the old key"),
     # ---- etcd-audit
-    (("etcd-audit",), "still *: #", "{1} values of {0} are stored, so its key may not go", "seal them anew; docs/OPERATORS.md, 'When an old key may go'"),
-    (("etcd-audit",), "* sealed # of these values: one key is for # writes, exchange it", "{1} values in etcd are sealed by {0}, whose nonces are random: two values under one nonce give both away", "exchange the key: docs/OPERATORS.md, 'Which provider'; another name for the same secret is the same key"),
+    (("etcd-audit",), "still *: #", "{1} values of {0} are stored, so its key may not go", "re-encrypt them; docs/OPERATORS.md, 'When an old key may go'"),
+    (("etcd-audit",), "remark: * was looked for among * alone, as --only says: other resources may need it", "no value of {1} is of {0}, and no other resource was counted", "ask again without --only before the key goes"),
+    (("etcd-audit",), "* sealed # of these values: one key is for # writes, exchange it", "{1} values in etcd are sealed by {0}, whose nonces are random: two values under one nonce reveal both", "exchange the key: docs/OPERATORS.md, 'Which provider'; another name for the same secret is the same key"),
     # ---- kms-bridge
     (("kms-bridge",), "standard output is closed, so nothing could be told; nothing was done", "the call has no standard output (`>&-`), and did nothing", "give it one; /dev/null is one"),
     (("kms-bridge",), "standard output: *", "standard output took no more ({0})", "is its disk full, or is kmsrest gone that reads the answers?"),
@@ -138,11 +139,11 @@ FORMS = [
     (RECOVER, "kmsrest: recover: * is there already, and nothing is written over", "a file {0} is there", "take another name"),
     (RECOVER, "kmsrest: recover: * is open in another call: wait for that one", "another kmsrest has {0} open", "wait for that one"),
     (RECOVER, "kmsrest: recover: * has no row before its breach: *", "{0} has nothing that could be kept ({1})", "is it another file? else take a copy"),
-    (RECOVER, "kmsrest: recover: * is made, and standard output took no line of it", "{0} has the rows before the breach, and what stood behind it wasn't told", "remove {0}, and call it again"),
+    (RECOVER, "kmsrest: recover: * is made, and standard output took no line of it", "{0} has the rows before the breach, and what was after it wasn't told", "remove {0}, and call it again"),
     (RECOVER, "kmsrest: recover: *", "{0}", "name a store, and a file that isn't there"),
     (RECOVER, "breach # #", "the store breaks its format at byte {1}, by text {0}", ""),
-    (RECOVER, "behind # * deleted *, kept *", "behind the breach {1} was deleted by row {0} ({2}); the new store keeps revision {3} of it", "where that counts, delete it anew"),
-    (RECOVER, "behind # * * * *, kept *", "behind the breach stands row {0} of {1}, of {2} by {3} ({4}); the new store keeps revision {5} of it", "where that counts, put the object anew: out of a copy, or by whoever wrote it"),
+    (RECOVER, "behind # * deleted *, kept *", "after the breach row {0} deleted {1} ({2}); the new store keeps its revision {3}", "if it matters, delete it again"),
+    (RECOVER, "behind # * * * *, kept *", "after the breach there is row {0} of {1}, of {2} by {3} ({4}); the new store keeps its revision {5}", "if it matters, put the object again: from a copy, or by whoever wrote it"),
     # ---- a file or a stream, in the system's words
     (BRIDGES, "*: $", "{0}: the system says: {1}", "is it there, and has this user the right?"),
     (("kms-bridge",), "$", "a stream failed, and the system says: {0}", "is kmsrest still there to read the answers?"),
@@ -167,20 +168,20 @@ COUNTS = {
         "same": ("{0} values are as they were imported: the rewrite left them so", "fresh ones need nothing; of `left` ones `kmsrest verify` says why"),
     },
     "rewrite": {
-        "rewritten": ("{0} objects were sealed anew", ""),
+        "rewritten": ("{0} objects were re-encrypted", ""),
         "fresh": ("{0} objects are sealed as the configuration would write them today", ""),
         "changed": ("{0} objects were written by another meanwhile; a rewrite is alone, so it is always 0", ""),
         "left": ("{0} objects are stored as before: they can't be read by this configuration, or their data can't be sealed", "`verify` with the same words names each that is refused, and why; one that it calls stale has data that can't be sealed"),
     },
     "verify": {
         "fresh": ("{0} objects are read, and sealed as the configuration would write them today", ""),
-        "stale": ("{0} objects are read, and another key or provider would write them today", "with more than 0: `kmsrest rewrite` seals them anew"),
+        "stale": ("{0} objects are read, and another key or provider would write them today", "with more than 0: `kmsrest rewrite` re-encrypts them"),
         "refused": ("{0} objects can't be read by this configuration", "with more than 0 the lines before name them, each with why; give the configuration the key that wrote them"),
     },
     "recover": {
-        "behind": ("{0} paths have a row behind the breach, as far as that can be read", "with more than 0 the lines before name each with what the new store keeps of it"),
-        "unread": ("{0} bytes behind the breach are no whole row", ""),
-        "recovered": ("{0} rows stood before the breach, and are the new store's", "`verify` of the new store: rows have no checksum"),
+        "behind": ("{0} paths have a row after the breach, as far as that can be read", "with more than 0 the lines before name each, and what the new store keeps of it"),
+        "unread": ("{0} bytes after the breach aren't a whole row", ""),
+        "recovered": ("{0} rows were before the breach, and are in the new store", "`verify` of the new store: rows have no checksum"),
     },
     "put": {"revision": ("what was put is row {0} of the store", "")},
     "migrate": {"migrated": ("{0} rows were copied", "")},
@@ -190,12 +191,12 @@ COUNTS = {
 # What a count of nothing means, where that is what one hopes for, or where it is not.
 NONE = {
     ("etcd-to-store", "rows"): ("nothing was copied", "is it the right --prefix, --only and --except? `bridges/etcd-audit` counts what there is"),
-    ("etcd-to-store", "left-out"): ("nothing was left out, as one hopes", ""),
-    ("store-to-etcd", "changed"): ("nobody wrote meanwhile, as one hopes", ""),
-    ("store-to-etcd", "refused"): ("etcd took all, as one hopes", ""),
-    ("rewrite", "left"): ("no object was left, as one hopes", "the rewrite is done where its status is 0 too: one that a fault ended may print `left 0`, and then a line says why"),
+    ("etcd-to-store", "left-out"): ("nothing was left out, as it should be", ""),
+    ("store-to-etcd", "changed"): ("nobody wrote meanwhile, as it should be", ""),
+    ("store-to-etcd", "refused"): ("etcd took everything, as it should be", ""),
+    ("rewrite", "left"): ("no object was left, as it should be", "the rewrite is done if its status is 0 too: one that a fault ended may print `left 0`, and then a line says why"),
     ("verify", "stale"): ("no object is stale: a rewrite would find nothing to do", ""),
-    ("verify", "refused"): ("this configuration reads all objects, as one hopes", ""),
+    ("verify", "refused"): ("this configuration reads all objects, as it should", ""),
 }
 
 

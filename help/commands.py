@@ -4,21 +4,21 @@
 OPTIONS = {
     "config": ("FILE", "the EncryptionConfiguration, in YAML or JSON, as the API server has it"),
     "file": ("FILE", "the fleet file: replicas, and what workers do at them"),
-    "files": ("FOLDER", "write the three configurations of the moves here besides, as API servers are given them; ./kmsrest does it"),
+    "files": ("FOLDER", "also write the three configurations of the moves into this folder, ready for the API servers; ./kmsrest does it"),
     "from": ("FILE", "the configuration that all API servers have"),
-    "limit": ("NUMBER", "how many objects a page has at most, 1 to 10000"),
+    "limit": ("NUMBER", "the most objects on a page, 1 to 10000"),
     "path": ("PATH", "the object's key in etcd, such as /registry/secrets/default/db; aesgcm and kms bind a value to it"),
     "plugin": ("NAME=PROGRAM", "the program that answers for the KMS plugin NAME; once for each plugin"),
-    "reload": ("N=FILE", "the configuration that API server N, from 0, is to read next"),
-    "replica": ("FILE", "the configuration that an API server has now; once for each, the first is number 0; at most 16"),
+    "reload": ("N=FILE", "the configuration that API server N, counted from 0, is to read next"),
+    "replica": ("FILE", "the configuration that an API server has now; once for each API server, the first is number 0; at most 16"),
     "replicas": ("NUMBER", "how many API servers there are, 1 to 16"),
     "resource": ("RESOURCE", "the resource in the plural, with its group: secrets, deployments.apps"),
-    "seed": ("NUMBER", "which load is made, at most 18446744073709551615; with another size it uses nonces again"),
-    "since": ("REVISION", "print the changes above this revision in place of the objects"),
+    "seed": ("NUMBER", "the load to make, at most 18446744073709551615; with another size it repeats nonces"),
+    "since": ("REVISION", "print the changes after this revision instead of the objects"),
     "size": ("NUMBER", "how many objects each of the four workers writes, 1 to 10000"),
-    "show": ("WORD", "wide or turned: print that configuration in place of the moves"),
+    "show": ("WORD", "wide or turned: print that configuration instead of the moves"),
     "store": ("FILE", "the store file"),
-    "to": ("FILE", "the store file that is written; it is absent or empty"),
+    "to": ("FILE", "the store file to write; it must be absent or empty"),
 }
 
 REPEATED = ("plugin", "replica")
@@ -27,14 +27,14 @@ OF_FRONT_END = {"plan": ("files",)}
 
 # The words of the script at the top; of these `--build`, `--draft` and `demo` alone build anything.
 OWN_WORDS = {
-    "help [COMMAND]": "this page, or a command's; so do no words, -h, --help, and COMMAND --help",
+    "help [COMMAND]": "this page, or a command's; the same as no words, -h, --help, and COMMAND --help",
     "--version": "the version",
-    "explain 'LINE' [WORD..]": "what a line that kmsrest or a bridge wrote means for the call with these words, and what to do",
-    "vet BASE NEW [--OPTION VALUE]..": "may this change of a configuration be merged? For a pull request, without a cluster",
-    "demo [--etcd]": "exchange a key in a folder of its own, each step told; where nothing is built, by a draft",
-    "--draft [WORD..]": "build an unproved program in some three minutes where that is due, then do the words by it",
-    "--build [WORD..]": "prove and build the program where that is due, then do the words",
-    "recover STORE NEW": "the rows in front of a store's breach as a new store, and path by path what stood behind it",
+    "explain 'LINE' [WORD..]": "what a line that kmsrest or a bridge printed means for the call with these words, and what to do",
+    "vet BASE NEW [--OPTION VALUE]..": "may this change to a configuration be merged? For a pull request, without a cluster",
+    "demo [--etcd]": "exchange a key in a temporary folder and explain each step; builds a draft if nothing is built",
+    "--draft [WORD..]": "build an unproved program, in some three minutes, if there is no current one; then run the words with it",
+    "--build [WORD..]": "prove and build the program if it isn't current, then run the words",
+    "recover STORE NEW": "copy the rows before a store's breach into a new store, and say path by path what came after it",
 }
 
 
@@ -42,41 +42,41 @@ OWN_WORDS = {
 OWN_PAGES = {
     "help": (
         "kmsrest help [COMMAND]",
-        "The commands, or one of them with its options, what it reads, writes and answers, and an example. No words, -h and --help show the commands, "
-        "COMMAND --help and COMMAND -h show the page of one. None of them builds anything.",
+        "Shows the commands, or one of them with its options, what it reads, writes and answers, and an example. No words, -h and --help show the "
+        "commands; COMMAND --help and COMMAND -h show a command's page. None of these builds anything.",
         ("./kmsrest help judge", "./kmsrest judge --help"),
     ),
     "version": ("kmsrest --version", "The version, as the file VERSION has it.", ("./kmsrest --version",)),
     "demo": (
         "kmsrest demo [--etcd]",
-        "Exchanges a key at two API servers, in a folder of its own that is removed behind it: objects are stored, a wrong reload is refused, the moves of a plan "
-        "are judged and made, all is sealed anew and verified. Each command stands there with what it printed and what that means. With --etcd the objects lie "
-        "in an etcd of its own on loopback, and the bridges take them to a store and back; `etcd` and `etcdctl` are on the path for that. Where nothing is built it "
-        "builds a draft first, as --draft does, and says so.",
+        "Exchanges a key on two API servers, in a temporary folder: it stores objects, shows a wrong reload that is refused, judges and makes the moves of a plan, "
+        "and re-encrypts and verifies everything. It prints each command, its output, and what that means. With --etcd the objects are in an etcd of its own on "
+        "loopback, and the bridges take them to a store and back; `etcd` and `etcdctl` must be on the path. If nothing is built it first builds a draft, as --draft "
+        "does, and says so.",
         ("./kmsrest demo",),
     ),
     "draft": (
         "kmsrest --draft [WORD..]",
-        "Builds a draft where none is there of the sources as they stand, and then does the words by it. A draft is the same program without its proofs. "
-        "Nothing is proved of it, its run-time checks stay in, and it is slower. It takes some three minutes of one processor. A draft lies in "
-        "out/draft, and no other call takes it for the program: with KMSREST_DRAFT=1 calls without --draft take one that is there. On a terminal each call of a "
-        "draft says `draft: not proved` on standard error. With the name of another program's crate as first word, as kmsplug or test_judge, that one is drafted and called. It needs `rt` of the kit on the "
-        "path (README.md, 'Build').",
+        "Builds a draft of the current sources if there is none, and then runs the words with it. A draft is the same program without its proofs. "
+        "Nothing is proved about it, its run-time checks stay in, and it is slower. Building takes some three minutes of one processor. The draft is in "
+        "out/draft, and no other call takes it for the program; with KMSREST_DRAFT=1 calls without --draft use one that is there. On a terminal each call of a "
+        "draft prints `draft: not proved` on standard error. If the first word names another program's crate, such as kmsplug or test_judge, that program is "
+        "drafted and called. It needs the kit's `rt` on the path (README.md, 'Get it').",
         ("./kmsrest --draft check --config examples/identity.yaml", "./kmsrest --draft kmsplug <crates/kmsplug/stdin"),
     ),
     "build": (
         "kmsrest --build [WORD..]",
-        "Proves and builds the program where that is due, which takes some 40 minutes on four processors where nothing is proved yet, "
-        "and then does the words. It needs `rt` of the kit on the path (README.md, 'Build'). Whether it is due is told by the contents of the sources, of "
-        "which their sums lie beside the program. Where the gate built it, times tell until the first call, which leaves these sums.",
+        "Proves and builds the program if it isn't current, and then runs the words. From nothing that takes some 40 minutes on four processors. "
+        "It needs the kit's `rt` on the path (README.md, 'Get it'). The program is current if the sums of the sources, kept beside it, are those of the sources now. "
+        "After a build by the gate, file times decide until the first call, which writes these sums.",
         ("./kmsrest --build check --config examples/identity.yaml",),
     ),
     "explain": (
         "kmsrest explain 'LINE' [WORD..]",
-        "What a line means that kmsrest or a bridge printed, on either stream, and what to do. With the words of that call behind it, it looks at the "
-        "files that they name: the line in a configuration, the row in a store, the file of an API server. It only reads, and shows of a file its places, "
-        "names and known words, and no secret. It ends with 2 where it doesn't know the line. A bridge's call begins with the bridge's name. "
-        "On a terminal a call that failed is explained so by itself, below its own line; KMSREST_EXPLAIN=1 does it everywhere, KMSREST_EXPLAIN=0 nowhere.",
+        "Says what a line means that kmsrest or a bridge printed, on either stream, and what to do. Add the words of that call, and it looks at the "
+        "files that they name: the line in a configuration, the row in a store, the file of an API server. It only reads, and shows places, "
+        "names and known words of a file, and no secret. It ends with 2 if it doesn't know the line. A bridge's call begins with the bridge's name. "
+        "On a terminal a failed call explains itself this way, below its own line; with KMSREST_EXPLAIN=1 it does so everywhere, with KMSREST_EXPLAIN=0 nowhere.",
         (
             "./kmsrest explain 'drops-writer 1 secrets aescbc:key1' judge --replica new.yaml --replica both.yaml",
             "./kmsrest explain 'changed 2' bridges/store-to-etcd",
@@ -85,19 +85,19 @@ OWN_PAGES = {
     "vet": (
         "kmsrest vet BASE NEW [--replicas N] [--kubernetes 1.NN] [--output text|json|github] [--strict] [--allow CODE].. [--as FILE]",
         "May this change of an EncryptionConfiguration be merged, from BASE, which all API servers have, to NEW? It judges the reloads one after another for "
-        "N API servers (3), over a store of which nothing is known, and where one is refused it shows the steps in between. It names what an API server of that version "
-        "refuses in NEW, or reads otherwise than `check`, and what is allowed and dangerous. It needs no build, no cluster and no etcd, and shows no secret. "
-        "An empty BASE, as /dev/null, stands for API servers without a configuration. --allow leaves out the warnings of a code, --as is the name to print for NEW. "
+        "N API servers (3), without knowing what is stored, and if one is refused it shows the steps in between. It names what an API server of that version "
+        "refuses in NEW or reads differently from `check`, and what is allowed but dangerous. It needs no build, no cluster and no etcd, and shows no secret. "
+        "An empty BASE, such as /dev/null, stands for API servers without a configuration. --allow silences the warnings of a code, --as is the name to print for NEW. "
         "It ends with 0: go on; 1: refused; 2: the words; 3: a warning with --strict. FORMATS, 'What vet finds', has the codes. bridges/kmsrest-vet is the same.",
         ("cd examples/rotation", "../../kmsrest vet old.yaml new.yaml"),
     ),
     "recover": (
         "kmsrest recover STORE NEW",
-        "For a store that breaks its format (text 42, 43 or 46), as behind a loss of power, and that has no other copy; one out of etcd is made anew. "
-        "It copies the rows in front of the breach into the store NEW, of its owner alone, which must not be there, and leaves STORE as it is. "
-        "It tells the breach, and of each path that has a row behind it that last row: its revision, resource and provider, whether it is whole or cut, "
-        "and the revision that NEW keeps of the path. It shows no values. Rows have no checksum: one whose inside was lost may look whole, so ask verify of NEW. "
-        "It ends with 0; 1 where the store is whole, and nothing is written; 2 the words; 3 where there is no row to recover; 4 where a file fails.",
+        "For a store that breaks its format (text 42, 43 or 46), as after a loss of power, and that has no other copy; import a store that came from etcd again. "
+        "It copies the rows before the breach into the store NEW, which must not exist and which only you can read, and leaves STORE as it is. "
+        "It prints the breach, and for each path with a row after it the last such row: its revision, resource and provider, whether it is whole or cut, "
+        "and the revision of the path that NEW keeps. It shows no values. Rows have no checksum: a row that lost its inside may look whole, so verify NEW. "
+        "It ends with 0; 1 if the store is whole, and then nothing is written; 2 for wrong words; 3 if there is no row to recover; 4 if a file fails.",
         ("./kmsrest recover store recovered",),
     ),
 }
@@ -155,7 +155,7 @@ COMMANDS = [
         reads="the configuration, and the value from standard input, byte for byte",
         writes="nothing",
         answers="the data on standard output; `fresh` or `stale` on standard error, which is no failure",
-        notes="`stale` says that the resource's writer is another provider, or has another key, than the one that wrote the value.",
+        notes="`stale`: the API server would write the value with another provider or key today.",
         example=(f"./kmsrest decrypt --config examples/three-entries.yaml {AT_SECRETS} <value",),
     ),
     Command(
@@ -165,7 +165,7 @@ COMMANDS = [
         (),
         reads="the value from standard input",
         writes="nothing",
-        answers="the provider, the key's name and the length; of a KMS value the key id, annotations and lengths too",
+        answers="the provider, the key's name and the length; for a KMS value also the key id, annotations and lengths",
         example=("./kmsrest inspect <value",),
     ),
     Command(
@@ -174,7 +174,7 @@ COMMANDS = [
         ("config", "store", "resource", "path"),
         ("plugin",),
         reads="the configuration, the data from standard input, the store",
-        writes="one row to the store, which is made where it is absent",
+        writes="one row to the store, which is made if it is absent",
         answers="`revision N`",
         example=("printf hi | ./kmsrest put --config examples/identity.yaml --store /tmp/store --resource secrets --path /s", "revision 1"),
     ),
@@ -190,13 +190,13 @@ COMMANDS = [
     ),
     Command(
         "verify",
-        "can all of a store file be read by this configuration, and is it written as it would be today?",
+        "can this configuration read all of a store file, and would it write it the same way today?",
         ("config", "store"),
         ("plugin",),
         reads="the configuration and the store",
         writes="nothing",
-        answers="REVISION RESOURCE PATH WORD, a line for each object, WORD being `fresh`, `stale` or `refused N NAME`; then how many of each; status 1 where some are refused",
-        notes="It reads each value as `get` does, and prints no data. Ask it by a configuration without the old key before that key goes.",
+        answers="REVISION RESOURCE PATH WORD for each object, where WORD is `fresh`, `stale` or `refused N NAME`; then how many of each; status 1 if some are refused",
+        notes="It reads each value as `get` does, and prints no data. Before you remove an old key, run it with a configuration without that key.",
         example=(
             "./kmsrest verify --config examples/identity.yaml --store /tmp/store",
             "1 secrets /s fresh",
@@ -212,7 +212,7 @@ COMMANDS = [
         (),
         reads="the store",
         writes="nothing",
-        answers="REVISION RESOURCE PATH TAG, a line for each object; `plain` says that it is stored in the clear",
+        answers="REVISION RESOURCE PATH TAG for each object; `plain` means that it is stored in the clear",
         example=("./kmsrest list --store /tmp/store", "1 secrets /s plain"),
     ),
     Command(
@@ -223,7 +223,7 @@ COMMANDS = [
         reads="the store, the configurations of all API servers, and the new one",
         writes="nothing",
         answers="`pass`, or the first reason against it with status 1",
-        notes="A key is known by its name and its secret. `judge` opens no value: which secret sealed a row it knows by the row's check alone.",
+        notes="A key is its name and its secret. `judge` opens no value: only the row's check shows which secret sealed it.",
         example=(
             "cd examples/rotation",
             "../../kmsrest judge --store /tmp/store --replica new.yaml --replica both.yaml --reload 0=last.yaml",
@@ -236,11 +236,11 @@ COMMANDS = [
         ("from", "to", "replicas"),
         ("show", "files"),
         reads="both configurations",
-        writes="nothing; with --files 1-wide.yaml, 2-turned.yaml and 3-to.yaml, of their owner alone, and over nothing that is there",
-        answers="`reload R wide` for each API server, `reload R turned` for each, `rewrite`, `reload R to` for each; with --show a configuration; with --files the names of the files behind",
-        notes="wide reads both and writes as --from does; turned reads both and writes as --to does. A rewrite must leave nothing. "
-        "The files of --files have each KMS plugin's endpoint, timeout and cachesize as the two given ones have them, and say on top which step each is; "
-        "a plugin that the two give different ones is refused. What --show prints has `unix:///NAME` in place of an endpoint.",
+        writes="nothing; with --files 1-wide.yaml, 2-turned.yaml and 3-to.yaml, which only you can read; it overwrites nothing",
+        answers="`reload R wide` for each API server, `reload R turned` for each, `rewrite`, `reload R to` for each; with --show a configuration; with --files also the files' names",
+        notes="wide reads both and writes as --from does; turned reads both and writes as --to does. The rewrite must leave nothing. "
+        "The files of --files keep each KMS plugin's endpoint, timeout and cachesize, and say at the top which step each is; "
+        "a plugin for which the two given files differ is refused. --show prints `unix:///NAME` instead of an endpoint.",
         example=(
             "cd examples/rotation",
             "../../kmsrest plan --from old.yaml --to last.yaml --replicas 2",
@@ -252,16 +252,16 @@ COMMANDS = [
             "reload 0 to",
             "reload 1 to",
         ),
-        texts={"to": ("FILE", "the configuration that all are to have")},
+        texts={"to": ("FILE", "the configuration that all API servers are to have")},
     ),
     Command(
         "rewrite",
-        "seal anew each object that the configuration would write otherwise today",
+        "re-encrypt each object that the configuration would write differently today",
         ("config", "store"),
         ("plugin",),
         reads="the configuration and the store",
         writes="a row for each stale object to the store",
-        answers="`rewritten N`, `fresh N`, `changed N`, `left N`; status 1 where some are left, since they can't be read or sealed",
+        answers="`rewritten N`, `fresh N`, `changed N`, `left N`; status 1 if some are left because they can't be read or sealed",
         example=("./kmsrest rewrite --config examples/rotation/new.yaml --store /tmp/store",),
     ),
     Command(
@@ -272,7 +272,7 @@ COMMANDS = [
         reads="the configuration and the store",
         writes="the rows to the file of --to",
         answers="`migrated N`",
-        notes="The configuration's secrets decide the checks, and no value is opened. With the wrong file the checks are wrong, and judge believes them.",
+        notes="The checks come from the configuration's secrets; no value is opened. With the wrong file the checks are wrong, and judge believes them.",
         example=("./kmsrest migrate --config old.yaml --store store1 --to store2",),
     ),
     Command(
@@ -281,31 +281,31 @@ COMMANDS = [
         ("file", "store"),
         ("plugin",),
         reads="the fleet file, the configurations that it names, from the current folder, and the store",
-        writes="the rows to the store, which is made where it is absent",
-        answers="the journal of all that was done, and each line's reply",
+        writes="the rows to the store, which is made if it is absent",
+        answers="the journal of everything that was done, and each line's reply",
         example=("cd examples/fleet", "../../kmsrest fleet --file rollout --store /tmp/fleet-store"),
     ),
     Command(
         "watch",
-        "what a watch cache shows that follows a fleet: its objects in pages, or the changes since a revision",
+        "what a watch cache that follows a fleet shows: its objects in pages, or the changes since a revision",
         ("file", "store", "resource", "limit"),
         ("plugin", "since"),
         reads="the fleet file, the configurations that it names, from the current folder, and the store",
-        writes="the rows to the store, which is made where it is absent",
-        answers="`page N` and REVISION PATH B64 for each object, or `change REVISION KIND PATH` for each change, and `end`; or `gone OLDEST` or `ahead NEWEST`, with status 1 where it would be 0",
-        notes="It keeps the last 1,000 changes. An object whose value couldn't be read has `?` in place of its data. Run it over a copy of the store: the fleet writes.",
+        writes="the rows to the store, which is made if it is absent",
+        answers="`page N` and REVISION PATH B64 for each object, or `change REVISION KIND PATH` for each change, and `end`; or `gone OLDEST` or `ahead NEWEST`, with status 1 instead of 0",
+        notes="It keeps the last 1,000 changes. If a value couldn't be read, `?` stands for its data. Run it over a copy of the store: the fleet writes.",
         example=("cd examples/fleet", "../../kmsrest watch --file rollout --store /tmp/fleet-store --resource secrets --limit 500"),
     ),
     Command(
         "gen",
-        "run a load that a seed and a size make, and print its summary",
+        "run a load made from a seed and a size, and print its summary",
         ("seed", "size", "store"),
         (),
         reads="the store",
-        writes="the load's rows to the store, which is made where it is absent",
+        writes="the load's rows to the store, which is made if it is absent",
         answers="how many puts and gets were done, and a digest of what was read",
-        notes="Keys and nonces are drawn from the seed, so that a load can be made again. One seed with another size uses a key's nonces again, "
-        "for other data: a load's keys seal nothing else, and its stores are no secret.",
+        notes="Keys and nonces come from the seed, so that a load can be repeated. One seed with another size uses a key's nonces again "
+        "for other data: use a load's keys for nothing else, and don't treat its stores as secret.",
         example=("./kmsrest gen --seed 1 --size 2 --store /tmp/load-store", "gen 1 2", "puts 8", "gets 8"),
     ),
 ]
@@ -313,10 +313,10 @@ COMMANDS = [
 STATUSES = {
     0: "done",
     1: "the answer is no: a value is refused or absent, a verdict isn't `pass`, objects are left, a watch's revision is gone or ahead",
-    2: "the words mean no command",
-    3: "a file is absent, or what it says breaks a rule",
+    2: "wrong words: they mean no command",
+    3: "a file is absent, or its content breaks a rule",
     4: "a file, a stream, the store or a plugin failed",
-    5: "want of memory",
+    5: "out of memory",
     6: "a limit is passed",
     70: "the script: the program isn't built, or is older than its sources, or couldn't be built",
 }

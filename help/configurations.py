@@ -189,7 +189,7 @@ def yaml_finding(data, no):
     if re.search(r"^[^#]*:\t", line):
         return Finding(**told, found="a tab behind a colon, so it is no key", do="put a space behind the colon")
     if match := NO_COLON.match(line):
-        return Finding(**told, found=f"no colon behind `{match[1]}`", do=f"write `{match[1]}:`, and a space behind it")
+        return Finding(**told, found=f"no colon behind `{match[1]}`", do=f"write `{match[1]}:`, and a space after it")
     if kind == "Indent" and not re.search(r":( |$)|^ *- ", line.rstrip("\r")):
         return Finding(**told, found="a text that goes on from the line above", do="put the whole text on one line; `base64 -w 0` prints it so")
     if kind == "Indent":

@@ -12,6 +12,7 @@ from reference import configuration, store
 from reference.values import reader_of
 
 MAGICS = (b"KRSTORE1", b"KRSTORE2")
+RANDOM_DEVICE = "/dev/urandom"
 INTO = "bridges/kms-bridge --into plugins --config FILE writes a program for each plugin of the configuration, and prints the word --plugin for it"
 
 
@@ -81,6 +82,14 @@ def similar(path):
         return ""
     found = difflib.get_close_matches(path.name, names, 1, 0.6)
     return f"; there is {path.parent / found[0]}" if found else ""
+
+
+def random_device_fault():
+    """What stands in the place of the random device, where that is none, and what to do; or None."""
+    if Path(RANDOM_DEVICE).is_char_device():
+        return None
+    found = "it is no device" if Path(RANDOM_DEVICE).exists() else "it isn't there"
+    return found, f"make the device there: mknod -m 666 {RANDOM_DEVICE} c 1 9"
 
 
 def plugin_fault(name, program):

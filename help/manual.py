@@ -5,13 +5,13 @@ from commands import COMMANDS, OPTIONS, OWN_WORDS, STATUSES
 from programs import Program
 
 ABOUT = (
-    "kmsrest does what the API server does with values on their way to etcd: it seals and reads them by an EncryptionConfiguration. "
-    "It judges whether an API server may get another configuration, and rewrites what is stored."
+    "kmsrest reads and writes the values that a Kubernetes API server stores in etcd, by its EncryptionConfiguration. "
+    "It says whether an API server can safely switch to another configuration now, and re-encrypts what is stored."
 )
 ENVIRONMENT = {
-    "KMSREST_DRAFT": "set to 1: calls take the draft that --draft built, and build nothing",
-    "KMSREST_EXPLAIN": "set to 1: a call that failed is explained below its own line; to 0: never; else on a terminal",
-    "TMPDIR": "where a build keeps its log and its copy of the sources, and demo its folder",
+    "KMSREST_DRAFT": "1: calls use the draft that --draft built, and build nothing",
+    "KMSREST_EXPLAIN": "1: explain a failed call below its own line; 0: never; otherwise only on a terminal",
+    "TMPDIR": "where a build puts its log and its copy of the sources, and demo its folder",
 }
 
 
@@ -45,7 +45,7 @@ def kmsrest_page(version, usage):
     lines += [".SH EXAMPLES"]
     for command in COMMANDS[:1] + COMMANDS[7:8]:
         lines += [".PP", ".nf", *map(roff, command.example), ".fi"]
-    lines += [".SH SEE ALSO", roff("README.md, docs/OPERATORS.md and docs/FORMATS.md beside the program; explain tells what a line means.")]
+    lines += [".SH SEE ALSO", roff("README.md, docs/OPERATORS.md and docs/FORMATS.md beside the program; explain says what a line means.")]
     return "\n".join(lines) + "\n"
 
 
@@ -70,6 +70,6 @@ def program_page(program: Program, version):
         lines += [f".SH {title}", *tagged([(value_of(option), sentence(option.text)) for option in options])] if options else []
     lines += [".SH ENVIRONMENT AND EXIT STATUS"]
     lines += [line for part in re.split(r"(?=\bStatus: )", program.notes) if part for line in (".PP", roff(sentence(part.strip())))]
-    documents = "docs/OPERATORS.md and docs/BRIDGES.md of kmsrest; kmsrest explain tells what its lines mean."
+    documents = "docs/OPERATORS.md and docs/BRIDGES.md of kmsrest; kmsrest explain says what its lines mean."
     lines += [".SH SEE ALSO", "kmsrest(1)", ".PP", roff(documents)]
     return "\n".join(lines) + "\n"

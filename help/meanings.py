@@ -1,14 +1,14 @@
 """What is said of a line where nothing can be looked at: the meaning of each code, refusal, fault and limit, and what to do."""
 
 CODES = {
-    20: ("a configuration begins as JSON and can't be read as JSON", "look at it by a reader of JSON; explain names the line where it is given the call's words"),
-    21: ("a configuration can't be read as YAML of the profile (FORMATS, 'The YAML profile'); the numbers are the line and the kind of fault", "mend the line"),
-    22: ("a named value of a configuration is missing or hasn't its form", "each provider wants its members"),
+    20: ("a configuration begins as JSON and can't be read as JSON", "check it with a JSON reader; with the call's words, explain names the line"),
+    21: ("a configuration isn't YAML of the profile (FORMATS, 'The YAML profile'); the numbers are the line and the kind of fault", "mend the line"),
+    22: ("a named value of a configuration is missing, or has the wrong form", "give each provider its members"),
     23: ("`apiVersion` isn't apiserver.config.k8s.io/v1", "write `apiVersion: apiserver.config.k8s.io/v1`"),
     24: ("`kind` isn't EncryptionConfiguration", "write `kind: EncryptionConfiguration`"),
     25: ("a list is empty", "put an item into it"),
     26: ("a provider is none of identity, aescbc, aesgcm, kms", "look at its spelling and its indentation"),
-    27: ("one item has two providers", "begin each provider by `- ` of its own"),
+    27: ("one item has two providers", "begin each provider with its own `- `"),
     28: ("a provider is secretbox, which isn't read here", "seal its values by another provider first"),
     29: ("a kms provider is of version 1", "write `apiVersion: v2` with a plugin of version 2"),
     30: ("a kms provider is of another version than v2", "write `apiVersion: v2`"),
@@ -20,27 +20,27 @@ CODES = {
     36: ("a resource stands twice in an entry", "delete one of the two"),
     37: ("two resources of an entry overlap", "put them into two entries, the narrower one first"),
     38: ("two providers of an entry have one kind and one name", "give a key another name, or delete one"),
-    40: ("a file that the words name isn't there", "name it from the current folder"),
+    40: ("a named file isn't there", "names start from the current folder"),
     41: ("the store's first bytes are those of no store", "is it another file? A store begins KRSTORE1 or KRSTORE2"),
-    42: ("the store ends in the midst of a row: a program was killed while it wrote, or the file was cut", "a store that came out of etcd: remove it and its map, and import anew; another one: kmsrest recover FILE NEW keeps the rows before it"),
-    43: ("the store has a row that breaks its format, as behind a loss of power", "restore it from a copy; all rows before that byte are whole"),
-    44: ("a configuration names a KMS plugin to which no program was given", "add --plugin NAME=PROGRAM"),
-    45: ("a plugin says that it isn't well: its version isn't v2, its healthz isn't ok, or its key_id is empty or too long", "look at the plugin and its key service"),
-    46: ("the store has a row of another revision than its place: rows are missing, as behind a loss of power, or two files were joined", "restore it from a copy"),
-    47: ("a line of the fleet file can't stand where it stands", "FORMATS, 'The fleet file', has the lines"),
+    42: ("the store ends in the middle of a row: a program was killed while it wrote, or the file was cut", "a store that came from etcd: remove it and its map, and import again; another one: kmsrest recover FILE NEW keeps the rows before it"),
+    43: ("the store has a row that breaks its format, as after a loss of power", "restore it from a copy; all rows before that byte are whole"),
+    44: ("a configuration names a KMS plugin that has no program here", "add --plugin NAME=PROGRAM"),
+    45: ("a plugin reports that it isn't healthy: its version isn't v2, its healthz isn't ok, or its key_id is empty or too long", "look at the plugin and its key service"),
+    46: ("the store has a row of another revision than its place: rows are missing, as after a loss of power, or two files were joined", "restore it from a copy"),
+    47: ("a line of the fleet file isn't allowed where it is", "FORMATS, 'The fleet file', has the lines"),
     48: ("no provider of the first configuration reads what is stored at the path", "use the configuration that the API servers have, with the key that wrote it"),
     49: ("the configurations of the API servers don't go together", "give each the configuration that it really has"),
     51: ("what is stored at the path was sealed with another secret of the same name", "use the file with that secret; two secrets of one name are two keys"),
     52: ("the store that migrate is to write isn't empty", "name a file that isn't there, or remove this one"),
-    53: ("the store is of the second format already", "nothing needs to be done"),
+    53: ("the store is of the second format already", "there is nothing to do"),
 }
 
 REFUSALS = {
     1: ("the value is too short", ("it was cut: copied by hand, or through a shell variable, which drops zero bytes", "it is its prefix alone")),
-    2: ("the body isn't whole blocks of 16 bytes", ("one newline more: `etcdctl get --print-value-only` ends the value by one: | head -c -1", "the value was cut, or went through a text tool")),
+    2: ("the body isn't whole blocks of 16 bytes", ("an extra newline: `etcdctl get --print-value-only` adds one: | head -c -1", "the value was cut, or went through a text tool")),
     3: ("the padding is wrong", ("another secret under the key's name: compare the files of all API servers", "the value was changed")),
     4: ("the tag is wrong", ("another path: it is etcd's whole key, /registry/secrets/NAMESPACE/NAME, with the server's --etcd-prefix", "another secret under the key's name", "one newline more, from `etcdctl get --print-value-only`: | head -c -1", "the value was changed")),
-    5: ("the encrypted object breaks its format at that byte", ("one newline more: `etcdctl get --print-value-only` ends the value by one: | head -c -1", "the value was cut, or went through a text tool")),
+    5: ("the encrypted object breaks its format at that byte", ("an extra newline: `etcdctl get --print-value-only` adds one: | head -c -1", "the value was cut, or went through a text tool")),
     6: ("the key id is empty or longer than 1,024 bytes", ("the plugin that wrote it broke the limits of KMS v2",)),
     7: ("the wrapped source is empty or longer than 1,024 bytes", ("the plugin that wrote it broke the limits of KMS v2",)),
     8: ("the annotations are more than 256, or longer than 32,768 bytes", ("the plugin that wrote it broke the limits of KMS v2",)),
@@ -55,7 +55,7 @@ REFUSALS = {
 
 FAULTS = {
     "input": ("standard input can't be read", "is it open, and no folder?"),
-    "output": ("standard output can't be written", "is the disk full, or the reader of the pipe gone? `| head` leaves before all is written: write to a file and read that, or take `| sed -n 1,10p`, which reads to the end"),
+    "output": ("standard output can't be written", "is the disk full, or the pipe's reader gone? `| head` leaves before everything is written: write to a file and read that, or use `| sed -n 1,10p`, which reads to the end"),
     "store": ("the store can't be read, written or synced", "is the disk full? what was being written may be lost: copy the store to a new file (cp, sync) and go on with the copy; one that came out of etcd is imported anew"),
     "target": ("the file of --to can't be written or synced", "is the disk full? remove it and begin again"),
     "dice": ("the system gives no random bytes", "look at /dev/urandom"),
@@ -75,7 +75,7 @@ LIMITS = {
     "store": "a store has at most 67,108,864 bytes, all revisions included; put live rows into several stores",
     "script": "a fleet file has at most 67,108,864 bytes",
     "workers": "a fleet has at most 64 workers",
-    "journal": "a call makes at most 4,000,000 lines of the journal; part the work",
+    "journal": "a call makes at most 4,000,000 lines of the journal; split the work",
 }
 
 CLASH = "two secrets of one name: for {0} both configurations have {1}, with another secret each", "give the new key another name: what is stored names its key alone"

@@ -66,4 +66,4 @@ def store_line(told, code, place, call):
             told.add("do", "where it came out of etcd: remove it, and begin with etcd-to-store again")
             told.add("do", f"else {recover}: the rows before it, and what the cut one was; that was never answered")
         else:
-            told.add("do", f"restore it from a copy; else {recover}: the rows before it, and path by path what stands behind it")
+            told.add("do", f"restore it from a copy; else {recover}: the rows before it, and path by path what comes after it")

@@ -85,6 +85,7 @@ def put(options, world, source, output):
     providers = configuration.list_for(entries, options["resource"])
     value = Bench(world, programs).seal(providers, options["path"], data)
     tape.add(form, rows, store.Row(options["path"].encode(), options["resource"].encode(), value, check_of(providers[0])))
+    tape.settle()
     output.write_all(b"revision %d\n" % (len(rows) + 1))
     return b"", 0
 
@@ -126,6 +127,7 @@ def migrate(options, world, output):
     for row in rows:
         target.add(2, copied, migrated(entries, row))
         copied.append(row)
+    target.settle()
     output.write_all(b"migrated %d\n" % len(rows))
     return b"", 0
 
@@ -214,10 +216,12 @@ def rewrite(options, world, output):
         for row in live:
             counts[rewritten(bench, configuration.list_for(entries, row.resource.decode()), form, rows, tape, row)] += 1
     except Stop:
-        # why it was cut short stands, whatever becomes of the report
+        # where the store can't be settled that alone is told; else why it was cut short stands, whatever becomes of the report
+        tape.settle()
         with suppress(Stop):
             output.write_all(report())
         raise
+    tape.settle()
     output.write_all(report())
     return b"", 1 if counts["left"] else 0
 

@@ -101,7 +101,7 @@ class Core:
     def __init__(self, tape, form, rows, names, opening):
         """`opening` has for each replica its entries and seeds, or None."""
         self.tape, self.form, self.rows, self.names = tape, form, rows, names
-        self.end, self.current, self.journal, self.changes = len(tape.content), {}, [], []
+        self.current, self.journal, self.changes = {}, [], []
         self.board, self.seeds = Board(len(names)), []
         self.check_rows(opening[0][0])
         for number, found in enumerate(opening):
@@ -196,14 +196,11 @@ class Serving:
     def append(self, kind, path, row):
         """The revision of one more row."""
         core = self.core
-        # What a write that failed left is written over.
-        core.tape.content = core.tape.content[: core.end]
         try:
             core.tape.add(core.form, core.rows, row)
         except Stop as no:
             self.line("full" if no.status == 6 else "failed", kind, path)
             raise
-        core.end = len(core.tape.content)
         core.rows.append(row)
         return len(core.rows)
 
@@ -384,6 +381,7 @@ def work(options, world, watched=False):
     for worker, outfit in zip(workers, outfits):
         serving = Serving(core, worker, outfit, files)
         replies.append([serving.reply(words) for words in worker.lines])
+    tape.settle()
     return core, list(zip(workers, replies)), first, begun
 
 

@@ -91,5 +91,6 @@ def run(options, world, output):
     fleet.Core(tape, form, rows, ["a", "b"], [(entries, {}), (entries, {})])
     if tape.writes.fails:
         raise NotImplementedError("which put fails depends on the workers' order")
+    tape.settle()
     output.write_all(summary(seed, size).encode())
     return b"", 0

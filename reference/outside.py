@@ -80,12 +80,24 @@ class Dice(Numbered):
         return drawn
 
 
-class Tape(Numbered):
-    """A file that is read and written at places; reads and writes fail by numbers of their own."""
+class TapeCalls(Numbered):
+    """Calls of one kind on a tape, with numbers of their own; the count of faults is the tape's."""
 
-    def __init__(self, content, reads, writes):
+    def __init__(self, tape, fails):
+        super().__init__(None, fails)
+        self.tape = tape
+
+    def fault(self):
+        self.tape.fault()
+
+
+class Tape(Numbered):
+    """A file that is read and written at places; what reads, writes and settles it fails by numbers of their own."""
+
+    def __init__(self, content, reads, writes, settles=()):
         super().__init__("store", reads)
-        self.content, self.writes = content, Numbered("store", writes)
+        self.content, self.end, self.torn = content, len(content), False
+        self.writes, self.settles = TapeCalls(self, writes), TapeCalls(self, settles)
 
     def load(self):
         """The store in it: its length is asked for, and then it is read, which is one call where it is short."""
@@ -101,7 +113,7 @@ class Tape(Numbered):
 
     def load_new(self):
         """The rows of the store that a migration writes, which are none: its length is asked for, and then it is read."""
-        self.name = self.writes.name = "target"
+        self.name = "target"
         self.call()
         if self.content:
             raise Stop(3, f"text 52 {len(self.content)}")
@@ -109,16 +121,27 @@ class Tape(Numbered):
         return []
 
     def add(self, form, rows, row):
-        """One more row. A write that fails leaves the front half of its bytes."""
-        data = (b"" if self.content else store.MAGICS[form]) + store.row_bytes(form, len(rows) + 1, row)
-        if len(self.content) + len(data) > store.MOST_STORE:
+        """One more row. A write that fails leaves the front half of its bytes; these are cut off, and that is settled, before others follow."""
+        data = (b"" if self.end else store.MAGICS[form]) + store.row_bytes(form, len(rows) + 1, row)
+        if self.end + len(data) > store.MOST_STORE:
             raise Stop(6, f"limit store {store.MOST_STORE}")
+        if self.torn:
+            self.writes.call()
+            self.content = self.content[: self.end]
+            self.settle()
+            self.torn = False
         try:
             self.writes.call()
         except Stop:
             self.content += data[: len(data) // 2]
+            self.torn = True
             raise
         self.content += data
+        self.end = len(self.content)
+
+    def settle(self):
+        """All that it holds is on the device."""
+        self.settles.call()
 
 
 class World(Numbered):

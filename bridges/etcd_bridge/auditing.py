@@ -31,8 +31,8 @@ def parsed(arguments: list[str]) -> tuple[argparse.Namespace, Places]:
         prog="etcd-audit",
         allow_abbrev=False,
         description=__doc__,
-        epilog="Endpoints and certificates come from etcdctl's environment. Status: 0; 1 what --still asks for is there, or the "
-        "source is refused; 2 the words; 3 etcd doesn't answer.",
+        epilog="Endpoints and certificates come from etcdctl's environment. Status: 0 done; 1 there is a value of --still, or the "
+        "source is refused; 2 wrong words; 3 etcd doesn't answer.",
     )
     add_reading(parser)
     add_sources(parser)
@@ -41,7 +41,7 @@ def parsed(arguments: list[str]) -> tuple[argparse.Namespace, Places]:
         action="append",
         default=[],
         metavar="PROVIDER[@KEY_ID]",
-        help="end with 1 while there is a value of it: aescbc:key1, kms:p, kms:p@k1, plain; may be repeated; wants --config",
+        help="end with 1 while there is a value of it: aescbc:key1, kms:p, kms:p@k1, plain; may be repeated; needs --config",
     )
     parser.add_argument(
         "--config",
@@ -151,14 +151,17 @@ def label(text: str) -> str:
 OUTPUTS = {"text": as_text, "json": as_json, "prometheus": as_prometheus}
 
 
-def judged(counts: Counts, asked: list[str]) -> bool:
-    """Whether nothing that is asked for is there; what is, is told on standard error."""
+def judged(counts: Counts, asked: list[str], only: list[str]) -> bool:
+    """Whether nothing that is asked for is there; what is, is told on standard error; so is that --only
+    left resources out of the question."""
     is_free = True
     for still in asked:
         number = sum(number for kind, number in counts.items() if kind.is_asked(still))
         if number:
             is_free = False
             say(f"etcd-audit: still {still}: {number}")
+        elif only:
+            say(f"etcd-audit: remark: {still} was looked for among {', '.join(only)} alone, as --only says: other resources may need it")
     return is_free
 
 
@@ -171,7 +174,7 @@ def work(arguments: list[str]) -> int:
         tell(OUTPUTS[words.output](counts, source.revision))
     for line in worn(counts):
         say(f"etcd-audit: {line}")
-    return 0 if judged(counts, words.still) else 1
+    return 0 if judged(counts, words.still, words.only) else 1
 
 
 def main(arguments: list[str]) -> int:

@@ -52,7 +52,7 @@ def add_reading(parser: argparse.ArgumentParser) -> None:
         default=[],
         type=named_place,
         metavar="PLACE=RESOURCE",
-        help="the resource of what is stored below PREFIX/PLACE, where the table doesn't know it; may be repeated",
+        help="the resource stored below PREFIX/PLACE, if the table doesn't know it; may be repeated",
     )
     parser.add_argument(
         "--only",
@@ -60,21 +60,21 @@ def add_reading(parser: argparse.ArgumentParser) -> None:
         default=[],
         type=resource,
         metavar="RESOURCE",
-        help="this resource alone, read at its places alone; may be repeated",
+        help="read only this resource; may be repeated",
     )
     parser.add_argument(
         "--page",
         type=count,
         default=PAGE,
         metavar="N",
-        help=f"how many keys to ask for at once ({PAGE}); fewer where values are large",
+        help=f"how many keys to ask for at once ({PAGE}); fewer if values are large",
     )
 
 
 def add_sources(parser: argparse.ArgumentParser) -> None:
     """Where from, if not from an etcd that runs."""
     kind = parser.add_mutually_exclusive_group()
-    kind.add_argument("--snapshot", metavar="F", help="read a snapshot of etcd, and not one that runs")
+    kind.add_argument("--snapshot", metavar="F", help="read a snapshot of etcd instead of a running etcd")
     kind.add_argument("--json", metavar="F", help="read what `etcdctl get --prefix PREFIX -w json` wrote")
 
 

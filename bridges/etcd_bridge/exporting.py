@@ -25,14 +25,14 @@ def parsed(arguments: list[str]) -> argparse.Namespace:
         prog="store-to-etcd",
         allow_abbrev=False,
         description=__doc__,
-        epilog="Endpoints and certificates come from etcdctl's environment. Status: 0; 1 something changed meanwhile, was "
-        "refused, or was left plain; 2 the words.",
+        epilog="Endpoints and certificates come from etcdctl's environment. Status: 0 done; 1 something changed meanwhile, was "
+        "refused, or was left plain; 2 wrong words.",
     )
     parser.add_argument("--store", required=True, metavar="F", help="the store, as `kmsrest rewrite` left it")
     parser.add_argument("--map", metavar="M", help="its map (F.map)")
     kind = parser.add_mutually_exclusive_group(required=True)
     kind.add_argument(
-        "--verify", metavar="C", help="open each old and each new value by this configuration: both must be one object"
+        "--verify", metavar="C", help="open each old and each new value with this configuration: both must be the same object"
     )
     kind.add_argument("--no-verify", action="store_true", help="open nothing")
     parser.add_argument(
@@ -41,15 +41,15 @@ def parsed(arguments: list[str]) -> argparse.Namespace:
         default=[],
         type=plugin,
         metavar="NAME=PROGRAM",
-        help="the program of a plugin, by which --verify opens its values; may be repeated",
+        help="the program of a plugin, with which --verify opens its values; may be repeated",
     )
-    parser.add_argument("--dry-run", action="store_true", help="say what would be written, and write nothing")
+    parser.add_argument("--dry-run", action="store_true", help="print what would be written, and write nothing")
     parser.add_argument(
-        "--batch", type=count, default=MOST_BATCH, metavar="N", help=f"how many values a transaction has (at most {MOST_BATCH})"
+        "--batch", type=count, default=MOST_BATCH, metavar="N", help=f"how many values to write in one transaction (at most {MOST_BATCH})"
     )
     parser.add_argument("--pause", type=seconds, default=0, metavar="S", help="seconds between transactions (0)")
     parser.add_argument(
-        "--cluster", metavar="ID", help="the cluster to write to, where it isn't the map's (restored) or the map has none"
+        "--cluster", metavar="ID", help="the cluster to write to, if it isn't the map's (restored) or the map has none"
     )
     parser.add_argument(
         "--first",
@@ -57,7 +57,7 @@ def parsed(arguments: list[str]) -> argparse.Namespace:
         default=[],
         type=resource,
         metavar="RESOURCE",
-        help="seal this resource's plain values though nothing of it in etcd is sealed yet; may be repeated",
+        help="seal this resource's plain values even if nothing of it in etcd is sealed yet; may be repeated",
     )
     words = parser.parse_args(arguments)
     if words.batch > MOST_BATCH:

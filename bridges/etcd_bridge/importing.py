@@ -31,7 +31,7 @@ def parsed(arguments: list[str]) -> tuple[argparse.Namespace, Places]:
         allow_abbrev=False,
         description=__doc__,
         epilog="Endpoints and certificates come from etcdctl's environment (ETCDCTL_ENDPOINTS, ETCDCTL_CACERT, ETCDCTL_CERT, "
-        "ETCDCTL_KEY); ETCDCTL=PROGRAM has all asked by that program. Status: 0; 1 refused, nothing was written; 2 the words.",
+        "ETCDCTL_KEY); ETCDCTL=PROGRAM uses that program for everything. Status: 0 done; 1 refused, nothing was written; 2 wrong words.",
     )
     parser.add_argument("--store", required=True, metavar="F", help="the store to make")
     parser.add_argument("--map", metavar="M", help="its map (F.map)")
@@ -47,17 +47,17 @@ def parsed(arguments: list[str]) -> tuple[argparse.Namespace, Places]:
         help="not this resource; may be repeated",
     )
     parser.add_argument(
-        "--leave-out", action="store_true", help="list what no store can hold, and copy the rest, where all would be refused"
+        "--leave-out", action="store_true", help="list what no store can hold and copy the rest, instead of refusing everything"
     )
     parser.add_argument(
-        "--heads", action="store_true", help="the prefixes of values alone, enough for `list` and `judge`; there is no map"
+        "--heads", action="store_true", help="copy only the prefixes of values, enough for `list` and `judge`; makes no map"
     )
     parser.add_argument(
         "--config",
         metavar="C",
-        help="a store of the second format, with the checks of this configuration's keys, each of which opens its values",
+        help="make a store with row checks: open each value with this configuration's keys",
     )
-    parser.add_argument("--part", type=count, metavar="BYTES", help="parts of at most so many bytes: F.001, F.002, ..")
+    parser.add_argument("--part", type=count, metavar="BYTES", help="make parts of at most this many bytes: F.001, F.002, ..")
     words = parser.parse_args(arguments)
     if words.heads and words.map:
         parser.error("--heads has no map: what it leaves can't be written back")

@@ -59,14 +59,14 @@ def _parser() -> argparse.ArgumentParser:
         "--endpoint", type=_endpoint, metavar="unix:///PATH", help="the plugin's socket; unix:///@NAME is abstract"
     )
     whom.add_argument(
-        "--into", type=Path, metavar="DIR", help="write a program a plugin of --config here, and print kmsrest's words"
+        "--into", type=Path, metavar="DIR", help="write a program for each plugin of --config here, and print the words for kmsrest"
     )
     option("--config", type=Path, metavar="C", help="with --into: the configuration")
     option("--timeout", type=_timeout, metavar="3s", help=f"how long each try may take ({DEFAULT_TIMEOUT})")
-    option("--retries", type=_retries, default=2, metavar="2", help="how often a call that nobody answers is tried again")
-    option("--log", metavar="F", help="add a JSON line a call to this file")
-    option("--accept-v2beta1", action="store_true", help="take a plugin of version v2beta1 as one of v2")
-    option("--probe", action="store_true", help="ask each call once, and tell how it went")
+    option("--retries", type=_retries, default=2, metavar="2", help="how often to retry a call that nobody answers")
+    option("--log", metavar="F", help="add a JSON line for each call to this file")
+    option("--accept-v2beta1", action="store_true", help="accept a plugin of version v2beta1 as v2")
+    option("--probe", action="store_true", help="make each call once, and print how it went")
     return parser
 
 

@@ -21,10 +21,10 @@ def parser() -> argparse.ArgumentParser:
     words = argparse.ArgumentParser(
         prog="kmsrest-try-plan",
         allow_abbrev=False,
-        description="Plans a rollout by `kmsrest plan`, does its moves over a copy of a store by `kmsrest fleet`, and prints what came of "
-        "each, and last whether each object can be read. Nothing outside of a folder of its own is written, and the store stays as it is.",
-        epilog="KMSREST names another program than the kmsrest beside it. Status: 0 all moves were done, each object was sealed anew or "
-        "was fresh, and each is read; 1 not so; 2 the words; else kmsrest's own, where it refuses.",
+        description="Plans a rollout with `kmsrest plan`, does its moves over a copy of a store with `kmsrest fleet`, and prints the result of "
+        "each, and at last whether each object can be read. It writes only to a temporary folder; the store stays as it is.",
+        epilog="KMSREST names another program than the kmsrest beside it. Status: 0 all moves were done, each object was re-encrypted or "
+        "was fresh, and each is read; 1 otherwise; 2 wrong words; or kmsrest's own, if it refuses.",
     )
     words.add_argument("store", metavar="STORE", help="the store's file")
     words.add_argument("before", metavar="FROM", help="the configuration that all API servers have")

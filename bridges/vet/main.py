@@ -41,15 +41,15 @@ def minor_version(text: str) -> int:
 def parsed(arguments: list[str]) -> argparse.Namespace:
     parser = argparse.ArgumentParser(prog=NAME, allow_abbrev=False, description=__doc__, epilog=EPILOG)
     parser.add_argument("base", metavar="BASE", help="the EncryptionConfiguration that all API servers have")
-    parser.add_argument("new", metavar="NEW", help="the one that they are to have")
+    parser.add_argument("new", metavar="NEW", help="the configuration that they are to have")
     known = f"the API servers' version (1.{NEWEST}, the newest that is known)"
     count = f"how many API servers there are, 1 to {MOST_REPLICAS} (3)"
     parser.add_argument("--replicas", type=replicas, default=3, metavar="N", help=count)
     parser.add_argument("--kubernetes", type=minor_version, default=NEWEST, metavar="1.NN", help=known)
     form = "how to print: text, json, or github for annotations (text)"
     parser.add_argument("--output", choices=tuple(OUTPUTS), default="text", help=form)
-    parser.add_argument("--strict", action="store_true", help="end with 3 where there is a warning and no error")
-    allowed = "leave out the warnings of this code; may be repeated"
+    parser.add_argument("--strict", action="store_true", help="end with 3 if there is a warning and no error")
+    allowed = "silence the warnings of this code; may be repeated"
     parser.add_argument("--allow", action="append", choices=WARNINGS, default=[], metavar="CODE", help=allowed)
     parser.add_argument("--as", dest="shown", metavar="FILE", help="the name to print for NEW, as the repository has it")
     return parser.parse_args(arguments)

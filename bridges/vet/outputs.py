@@ -59,7 +59,7 @@ def steps(report: Report) -> Iterator[str]:
         return
     for place, step in enumerate(report.way.steps, 1):
         if step.name == "rewrite":
-            yield f"step {place}: seal anew what is stored, until nothing is left"
+            yield f"step {place}: re-encrypt what is stored, until nothing is left"
         elif step.name == "to":
             yield f"step {place}: each API server gets {report.new}"
         else:

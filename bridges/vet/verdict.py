@@ -102,7 +102,7 @@ def own_writers(base: Document, new: Document) -> list[Finding]:
     for one in rollout.classes_of(base.entries, new.entries):
         writer = rollout.list_at(base.entries, one)[0]
         if writer not in rollout.list_at(new.entries, one):
-            text = f"API server 0 writes {pattern_text(one)} by {provider_text(writer)}: what is stored so can't be read behind its restart"
+            text = f"API server 0 writes {pattern_text(one)} by {provider_text(writer)}: what is stored that way can't be read after its restart"
             found.append(finding(new, "own-writer", one, text, "turn first, by the steps below"))
     return found
 

@@ -17,7 +17,7 @@ LEFT = (
     *("front/building", "bridges/proto"),
 )
 # The documents for operators.
-PAGES = ("OPERATORS", "BRIDGES", "FORMATS", "GLOSSARY", "PLAN")
+PAGES = ("OPERATORS", "BRIDGES", "FORMATS", "GLOSSARY", "PLAN", "THREATS", "FAQ")
 # Of the page on tests what they show is left out: it speaks of the repository's own checks.
 LIMITS, TESTS = "TESTED", "Only tested"
 LIMITS_HEAD = "# What nothing shows\n\nThe repository's page of this name has what tests show, too.\n"

@@ -23,7 +23,7 @@ STATUS = {"healthz": "ok", "key_id": KEY_ID, "version": "v2"}
 LINE_LIMIT = 131_072
 CRATES = Path(__file__).resolve().parent.parent.parent / "crates"
 CRATE = CRATES / "kmsplug"
-SECONDS = 20
+SECONDS = 600
 
 requests, replies = [], []
 

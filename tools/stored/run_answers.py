@@ -16,7 +16,7 @@ stored answers, crates/test_run/stdout, with what it makes of the stored cases; 
     says VERSION HEALTHZ  what the plugin named last says in place of these
     key N KEY_ID          another key id that the plugin named last has from its Nth call on
     fails OBJECT N N ..   which calls of the object fail, from 1: input, output, errors, files, dice:SEAT, reads:TAPE,
-                          writes:TAPE, or plugin, which is the one named last
+                          writes:TAPE, settles:TAPE, or plugin, which is the one named last
     room N                bytes that the output has room for
     step N                bytes that a call of input, output and errors carries at most, 1 if not said
 
@@ -115,7 +115,7 @@ class Case:
         source = Source(self.input, self.fails_of("input"))
         output, errors = Sink("output", self.room, self.fails_of("output")), Sink("errors", ERRORS_ROOM, self.fails_of("errors"))
         dice = [(seat, Dice(seat, content, self.fails_of(f"dice:{seat}"))) for seat, content in self.dice]
-        tapes = [(name, Tape(content, self.fails_of(f"reads:{name}"), self.fails_of(f"writes:{name}"))) for name, content in self.tapes]
+        tapes = [(name, Tape(content, *(self.fails_of(f"{calls}:{name}") for calls in ("reads", "writes", "settles")))) for name, content in self.tapes]
         links = self.links()
         world = World(self.files, dice, tapes, self.fails_of("files"), links)
         if self.step != 1 and (source.fails or output.fails or errors.fails or self.room != ROOM):
@@ -133,7 +133,7 @@ class Case:
 def left_of(tapes, name):
     """What is left of the first tape of a name."""
     found = next((tape for other, tape in tapes if other == name), None)
-    return f"{printed(found.content)}:{found.faults + found.writes.faults}" if found else "out"
+    return f"{printed(found.content)}:{found.faults}" if found else "out"
 
 
 def printed(data):

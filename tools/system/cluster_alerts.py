@@ -92,5 +92,5 @@ def check(checks: Checks, file: Path, rules: dict, counts: str, room: Path) -> N
         test = room / f"test-{number}.json"
         asked = {"rule_files": ["rules.json"], "evaluation_interval": f"{case.step}m", "tests": [test_of(case, names)]}
         test.write_text(json.dumps(asked), encoding="utf-8")
-        done = call(["promtool", "test", "rules", test], cwd=room, timeout=300)
+        done = call(["promtool", "test", "rules", test], cwd=room)
         checks.expect(f"alerts: {case.name}", (0, ""), (done.status, "" if done.status == 0 else done.output.decode() + done.errors))

@@ -55,7 +55,8 @@ def run(words: list[object], seconds: float, log: Path) -> None:
     """Runs one step of making it; mounts that it leaves end with it."""
     with open(log, "ab") as told:
         try:
-            started = ["unshare", "--mount", *map(str, words)]
+            # (with --kill-child nothing that it began goes on where it takes too long)
+            started = ["unshare", "--mount", "--pid", "--fork", "--kill-child", *map(str, words)]
             done = subprocess.run(started, stdin=subprocess.DEVNULL, stdout=told, stderr=told, timeout=max(seconds, 1), check=False)
         except subprocess.TimeoutExpired:
             raise Missing(f"{words[0]} took longer than it may") from None
@@ -67,7 +68,7 @@ def make(archive: Path, seconds: float) -> Path:
     """Makes the archive within so many seconds."""
     end = time.monotonic() + seconds
     mirror, suite = source()
-    with tempfile.TemporaryDirectory(prefix="making-", dir=archive.parent) as folder:
+    with tempfile.TemporaryDirectory(prefix="making-", dir=archive.parent, ignore_cleanup_errors=True) as folder:
         root, log, draft = Path(folder) / "root", Path(folder) / "log", Path(folder) / archive.name
         run(["debootstrap", "--variant=minbase", "--include=python3", suite, root, mirror], end - time.monotonic(), log)
         shell = ["env", "DEBIAN_FRONTEND=noninteractive", "LC_ALL=C", "sh", "-c", INSTALL.format(" ".join(PACKAGES))]

@@ -114,7 +114,7 @@ def run_section(counts, section: Section, place: Place) -> None:
             except RuntimeError:
                 counts.skip(section.name, "etcd doesn't begin to serve here")
                 return
-            environment |= {"ETCDCTL_API": "3", "ETCDCTL_ENDPOINTS": etcd.endpoint}
+            environment |= {"ETCDCTL_API": "3", "ETCDCTL_ENDPOINTS": etcd.endpoint, "PATH": f"{etcd.programs}:{environment['PATH']}"}
         compare(counts.tell, section, printed_by(section, folder, place, environment))
 
 

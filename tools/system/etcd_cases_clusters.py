@@ -6,13 +6,12 @@ import signal
 import socket
 import subprocess
 import threading
-import time
 from pathlib import Path
 
 from etcd_bench import EXPORT, NEW, Bench, numbers
 from etcd_server import BRIDGES, PEER, EtcdServer, bare_environment, free_port
 from etcd_values import KEY1, aescbc, an_object
-from support import call
+from support import PATIENCE, call, wait_until
 
 PIECE = 65536
 
@@ -100,15 +99,19 @@ def other_cluster(bench: Bench) -> None:
             bench.expect("two clusters: each value is told", (count, True), (all_told, 0 < int(told["written"]) < count))
 
 
+def sealed_anew(etcd: EtcdServer, prefix: str) -> int:
+    """How many values there are by the new key."""
+    return sum(b":key2:" in stored.value for stored in etcd.values(prefix).values())
+
+
 def ended_midway(bench: Bench, first: EtcdServer, environment: dict[str, str]) -> tuple[str, str, int]:
     """An export whose etcd is killed once it has written something: its output, its errors and its status."""
-    words = [BRIDGES / EXPORT, "--store", bench.at("grpc"), "--verify", NEW, "--batch", "5", "--pause", "0.2"]
+    words = [BRIDGES / EXPORT, "--store", bench.at("grpc"), "--verify", NEW, "--batch", "5", "--pause", "5"]
     child = subprocess.Popen(list(map(str, words)), env=environment, stdout=subprocess.PIPE, stderr=subprocess.PIPE, text=True)
-    while not any(b":key2:" in stored.value for stored in first.values("/registry").values()):
-        time.sleep(0.02)
+    wait_until(lambda: sealed_anew(first, "/registry"), "an export has written something", child)
     first.process.send_signal(signal.SIGKILL)
     first.stop()
-    output, errors = child.communicate(timeout=120)
+    output, errors = child.communicate(timeout=PATIENCE)
     return output, errors, child.returncode
 
 
@@ -142,7 +145,6 @@ class Relay:
                 ours.shutdown(socket.SHUT_WR)
             theirs.sendall(piece)
             if is_last:
-                time.sleep(1)
                 ours.close()
                 return
 
@@ -173,8 +175,8 @@ def unanswered(bench: Bench) -> None:
     bench.expect("no answer: the paths of its values are told", (1, paths[:5]), (done.status, told))
     found = numbers(done)
     bench.expect("no answer: and counted", (0, 5, 7), (found["written"], found.get("unknown"), found.get("unsent")))
-    written = sum(b":key2:" in stored.value for stored in bench.etcd.values(prefix).values())
-    bench.expect("no answer: they were written, in truth", 5, written)
+    wait_until(lambda: sealed_anew(bench.etcd, prefix), "etcd has done what it was asked")
+    bench.expect("no answer: they were written, in truth", 5, sealed_anew(bench.etcd, prefix))
     found = numbers(bench.exported("store", "--verify", NEW))
     bench.expect("no answer: run again it is clear", (7, 5), (found["written"], found["already"]))
     nowhere = f"http://127.0.0.1:{free_port()}"

@@ -8,7 +8,7 @@ from pathlib import Path
 from etcd_bench import AUDIT, EXPORT, IMPORT, NEW, Bench, numbers
 from etcd_server import BRIDGES, TOLD
 from hostile_etcd import CLUSTER, HostileEtcd
-from support import Ended, call
+from support import PATIENCE, Ended, call
 
 FAILED = 4
 # What another program that speaks for etcd may write.
@@ -30,7 +30,7 @@ def one_line(done: Ended, told: str) -> bool:
 def with_output(bench: Bench, output: object, name: str, *words: object, **options) -> Ended:
     """A bridge whose standard output is this file."""
     child = subprocess.run([str(word) for word in (BRIDGES / name, *words)], stdout=output, stderr=subprocess.PIPE, env=bench.etcd.environment,
-                           timeout=120, check=False, **options)
+                           timeout=PATIENCE, check=False, **options)
     errors = child.stderr.decode(errors="replace")
     TOLD.update((name, line) for line in errors.splitlines())
     return Ended(child.returncode, b"", errors, 0)

@@ -221,6 +221,9 @@ def audits(bench: Bench) -> None:
     done = audit(*naming, "--still", "aescbc:key3", "--still", "kms:p@k2")
     bench.expect("audit: --still of what isn't there", 0, done.status)
     bench.expect("audit: --still of what needs no configuration", (0, 1), (audit("--still", "aesgcm:key1", *naming).status, audit("--still", "plain").status))
+    done = audit(*naming, "--still", "aescbc:key1", "--only", "configmaps")
+    remark = "etcd-audit: remark: aescbc:key1 was looked for among configmaps alone, as --only says: other resources may need it\n"
+    bench.expect("audit: --still with --only says what it left out", (0, remark), (done.status, done.errors))
     done = audit("--still", "aescbc:key3")
     bench.expect("audit: --still without a configuration", (2, True), (done.status, "wants --config C" in done.errors))
     done = audit(*NAMING, "--still", "aescbc:key01")

@@ -3,25 +3,25 @@ import fcntl
 import os
 import signal
 import subprocess
-import time
 
 from etcd_bench import EXPORT, IMPORT, NEW, Bench, numbers
+from etcd_cases_clusters import sealed_anew
 from etcd_server import BRIDGES
+from support import PATIENCE, stood_on, wait_until
 
 
 def killed(bench: Bench) -> None:
-    """An export that is killed in its midst, and run again."""
+    """An export that is killed in its midst, in its first pause, and run again."""
     prefix, count = "/killed", 60
     bench.sealed(prefix, count)
     bench.imported("killed", "--prefix", prefix, "--config", NEW)
     bench.rewritten("killed", NEW)
-    words = [BRIDGES / EXPORT, "--store", bench.at("killed"), "--verify", NEW, "--batch", "1", "--pause", "0.02"]
+    words = [BRIDGES / EXPORT, "--store", bench.at("killed"), "--verify", NEW, "--batch", "1", "--pause", "5"]
     child = subprocess.Popen(list(map(str, words)), env=bench.etcd.environment, stdout=subprocess.DEVNULL)
-    while not any(b":key2:" in stored.value for stored in bench.etcd.values(prefix).values()):
-        time.sleep(0.02)
+    wait_until(lambda: sealed_anew(bench.etcd, prefix), "an export has written something", child)
     child.send_signal(signal.SIGKILL)
     child.wait()
-    done_before = sum(b":key2:" in stored.value for stored in bench.etcd.values(prefix).values())
+    done_before = sealed_anew(bench.etcd, prefix)
     bench.expect("killed: in its midst", True, 0 < done_before < count)
     done = bench.exported("killed", "--verify", NEW, "--dry-run")
     found = numbers(done)
@@ -36,14 +36,13 @@ def terminated(bench: Bench) -> None:
     """An import that is ended in its midst leaves nothing."""
     bench.sealed("/terminated", 3)
     slow = bench.at("slow")
-    slow.write_text("#!/bin/bash\nexec sleep 30\n")
+    slow.write_text("#!/bin/bash\nexec sleep 9999\n")
     slow.chmod(0o755)
     words = [BRIDGES / IMPORT, "--store", bench.at("store"), "--prefix", "/terminated"]
     child = subprocess.Popen(list(map(str, words)), env={**bench.etcd.environment, "ETCDCTL": str(slow)})
-    while len(list(bench.folder.iterdir())) < 3:
-        time.sleep(0.02)
+    wait_until(lambda: len(list(bench.folder.iterdir())) >= 3, "an import has begun its files", child)
     child.terminate()
-    bench.expect("terminated: its status", 128 + signal.SIGTERM, child.wait())
+    bench.expect("terminated: its status", 128 + signal.SIGTERM, child.wait(PATIENCE))
     bench.expect("terminated: nothing is left", ["slow"], [path.name for path in bench.folder.iterdir()])
 
 
@@ -66,8 +65,7 @@ def terminal(bench: Bench) -> None:
     ours, theirs = os.openpty()
     subprocess.run([*words, "--dry-run"], env=bench.etcd.environment, stdout=subprocess.DEVNULL, stderr=theirs, check=True)
     os.close(theirs)
-    bench.expect("progress on a terminal", True, b"2 of 3\rstore-to-etcd: 3 of 3\r\n" in os.read(ours, 1000))
-    os.close(ours)
+    bench.expect("progress on a terminal", True, b"2 of 3\rstore-to-etcd: 3 of 3\r\n" in stood_on(ours))
     bench.expect("and nowhere else", "", bench.exported("store", "--no-verify").errors)
 
 

@@ -2,7 +2,7 @@
 from concurrent.futures import ThreadPoolExecutor
 
 from etcd_bench import AUDIT, IMPORT, NAMING, NEW, Bench, numbers
-from etcd_server import Certificates, EtcdServer, free_port
+from etcd_server import IMPATIENT, Certificates, EtcdServer, free_port
 
 
 def mutual(bench: Bench) -> None:
@@ -42,7 +42,7 @@ def no_answer(bench: Bench) -> None:
     nowhere = f"127.0.0.1:{free_port()}"
     bench.sealed("/answer", 2)
     bench.imported("store", "--prefix", "/answer", "--config", NEW)
-    for way, environment in (("gRPC", {}), ("etcdctl", {"ETCDCTL": "etcdctl --dial-timeout=1s --command-timeout=1s"})):
+    for way, environment in (("gRPC", {}), ("etcdctl", {"ETCDCTL": " ".join(["etcdctl", *IMPATIENT])})):
         gone = {"ETCDCTL_ENDPOINTS": nowhere, **environment}
         calls = [
             lambda: bench.etcd.bridge(AUDIT, **gone),

@@ -2,6 +2,8 @@
 import base64
 import json
 import os
+import random
+import shutil
 import signal
 import socket
 import subprocess
@@ -9,12 +11,17 @@ import time
 from dataclasses import dataclass
 from pathlib import Path
 
-from support import TOP, Ended, call, kmsrest_program
+from support import PATIENCE, TOP, Ended, call, kmsrest_program
 
 BRIDGES = TOP / "bridges"
-# Seconds in which a call must end, and an etcd must answer.
-CALL, PATIENCE = 600, 60
 PEER = "http://localhost:2"
+# etcdctl's own patience is two seconds for a connection and five for an answer, which a busy machine takes. It reads no other one from
+# the environment.
+PATIENT = ("etcdctl", f"--dial-timeout={PATIENCE}s", f"--command-timeout={PATIENCE}s")
+IMPATIENT = ("--dial-timeout=1s", "--command-timeout=5s")
+# Ports that a system doesn't give to clients, and those of them that are this process's own, each by a socket that keeps others off.
+PORTS = range(15000, 30000)
+OWN: dict[int, socket.socket] = {}
 # What the bridges have printed, each line with its program.
 TOLD: set[tuple[str, str]] = set()
 
@@ -29,15 +36,37 @@ class Stored:
 
 
 def free_port() -> int:
-    with socket.socket() as probe:
-        probe.bind(("127.0.0.1", 0))
-        return probe.getsockname()[1]
+    """A port of loopback at which nobody listens. It is this process's own up to its end: the checks that run beside it take another
+    one, also before somebody listens there."""
+    draw = random.SystemRandom()
+    while True:
+        port = draw.choice(PORTS)
+        own = socket.socket(socket.AF_UNIX, socket.SOCK_DGRAM)
+        try:
+            own.bind(f"\0kmsrest-check-port-{port}")
+            with socket.socket() as probe:
+                probe.bind(("127.0.0.1", port))
+        except OSError:
+            own.close()
+            continue
+        OWN[port] = own
+        return port
 
 
 def bare_environment() -> dict[str, str]:
     """The environment without what speaks of another etcd."""
     kept = {name: value for name, value in os.environ.items() if not name.startswith(("ETCD_", "ETCDCTL"))}
     return {**kept, "ETCDCTL_API": "3", "PYTHONDONTWRITEBYTECODE": "1"}
+
+
+def patient_etcdctl(folder: Path) -> Path:
+    """A folder with an etcdctl, for who finds it on the path: the real one, with patience."""
+    program = folder / "bin" / "etcdctl"
+    program.parent.mkdir()
+    words = " ".join([shutil.which("etcdctl") or "/nowhere/etcdctl", *PATIENT[1:]])
+    program.write_text(f'#!/bin/sh\nexec {words} "$@"\n')
+    program.chmod(0o755)
+    return program.parent
 
 
 class EtcdServer:
@@ -48,7 +77,9 @@ class EtcdServer:
         self.folder, self.certificates, self.process = folder, certificates, None
         scheme = "http" if certificates is None else "https"
         self.endpoint = f"{scheme}://127.0.0.1:{free_port()}"
+        self.programs = patient_etcdctl(folder)
         self.environment = {**bare_environment(), "ETCDCTL_ENDPOINTS": self.endpoint}
+        self.environment["PATH"] = f"{self.programs}:{os.environ['PATH']}"
         if certificates is not None:
             self.environment |= certificates.client_environment()
 
@@ -63,7 +94,7 @@ class EtcdServer:
             words, cwd=self.folder, stdout=self.log, stderr=self.log, env=bare_environment(), start_new_session=True
         )
         began = time.monotonic()
-        while self.etcdctl("endpoint", "health").status != 0:
+        while self.etcdctl(*IMPATIENT, "endpoint", "health").status != 0:
             if time.monotonic() - began > PATIENCE or self.process.poll() is not None:
                 self.stop()
                 raise RuntimeError(f"etcd doesn't serve: {(self.folder / 'log').read_text()[-400:]}")
@@ -119,7 +150,7 @@ class EtcdServer:
 
     def bridge(self, name: str, *words: object, **environment: str) -> Ended:
         """Calls one of the bridges on this etcd."""
-        done = call([BRIDGES / name, *words], env={**self.environment, **environment}, timeout=CALL)
+        done = call([BRIDGES / name, *words], env={**self.environment, **environment})
         TOLD.update((name, line) for text in (done.output.decode(errors="replace"), done.errors) for line in text.splitlines())
         return done
 
@@ -130,7 +161,7 @@ def escaped(value: bytes) -> str:
 
 def kmsrest(*words: object, data: bytes = b"", cwd: Path | None = None) -> Ended:
     """Calls the built program."""
-    return call([kmsrest_program(), *words], data, cwd=cwd, timeout=CALL)
+    return call([kmsrest_program(), *words], data, cwd=cwd)
 
 
 class Certificates:

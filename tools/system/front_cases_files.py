@@ -1,9 +1,16 @@
 """`plan --files`: the files of a plan, as API servers are given them."""
+import subprocess
 from pathlib import Path
 
 from front_cases_remarks import AROUND, ROTATION, front
-from support import Checks, Ended, call, kmsrest_program
+from support import PATIENCE, Checks, Ended, kmsrest_program
 
+# The program, which goes on behind its moves only once their reader has left.
+HOLDS = """#!/bin/sh
+'{program}' "$@" || exit
+case " $* " in *" --show "*) exit ;; esac
+while [ ! -e '{left}' ]; do sleep 0.05; done
+"""
 NAMES = ["1-wide.yaml", "2-turned.yaml", "3-to.yaml"]
 HEAD = "apiVersion: apiserver.config.k8s.io/v1\nkind: EncryptionConfiguration\nresources:\n"
 ENTRY = "  - resources:\n{resources}    providers:\n{providers}"
@@ -61,12 +68,26 @@ def plan_files(checks: Checks, room: Path) -> None:
         checks.expect(f"{word} is read as the plan has it", meaning(room / word), meaning(folder / name))
     checks.expect("the last one is the new one", meaning(new), meaning(folder / NAMES[2]))
     done = planned(old, new, folder)
-    checks.expect("nothing is written over", (4, True), (done.status, "is there already, and nothing is written over" in done.errors))
+    checks.expect("nothing is written over, and no plan is printed", (4, b"", True), (done.status, done.output, "is there already, and nothing is written over" in done.errors))
     checks.expect("and nothing has changed", texts, [(folder / name).read_text() for name in NAMES])
-    # (a reader that takes the moves and leaves; the files are told after that)
-    words = ["plan", "--from", old, "--to", new, "--replicas", 2, "--files", room / "left"]
-    left = call(["bash", "-c", f'set -o pipefail; "$@" | head -n {moves.count(chr(10))} >/dev/null', "-", AROUND, kmsrest_program(), *words])
-    checks.expect("a reader that leaves: one line, and the files", (4, 1, NAMES), (left.status, left.errors.count("\n"), files_of(room / "left")))
+    plan_files_unread(checks, room, old, new)
+
+
+def plan_files_unread(checks: Checks, room: Path, old: Path, new: Path) -> None:
+    """A reader that takes the moves and leaves; the files are told after that."""
+    holds, left, folder = room / "holds", room / "reader-left", room / "unread"
+    holds.write_text(HOLDS.format(program=kmsrest_program(), left=left))
+    holds.chmod(0o755)
+    words = ["plan", "--from", old, "--to", new, "--replicas", 2]
+    moves = front(*words).output.splitlines(keepends=True)
+    child = subprocess.Popen([str(word) for word in (AROUND, holds, *words, "--files", folder)], stdout=subprocess.PIPE, stderr=subprocess.PIPE)
+    taken = [child.stdout.readline() for _ in moves]
+    child.stdout.close()
+    left.touch()
+    errors = child.stderr.read().decode()
+    found = (child.wait(PATIENCE), taken == moves, errors.count("\n"), files_of(folder))
+    child.stderr.close()
+    checks.expect("a reader that leaves: one line, and the files", (4, True, 1, NAMES), found)
 
 
 def plan_files_of_keys(checks: Checks, room: Path) -> None:

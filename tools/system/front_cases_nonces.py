@@ -62,11 +62,11 @@ def many_sealed(checks: Checks, room: Path) -> None:
     """A real rewrite of one value more than a key is for, one of so many, and what two names of one secret count."""
     one = configuration(room, "one.json", ("secrets", "k", SECRET), ("configmaps", "k", SECRET))
     plain_store(room / "store", MOST + 1)
-    done = call([AROUND, kmsrest_program(), "rewrite", "--config", one, "--store", room / "store"], timeout=600)
+    done = call([AROUND, kmsrest_program(), "rewrite", "--config", one, "--store", room / "store"])
     told = [line for line in done.errors.splitlines() if line.startswith(f"remark: this rewrite sealed {MOST + 1} values by aesgcm:k: ")]
     found = (done.status, done.output.splitlines()[:1], len(told), SECRET in done.errors)
     checks.expect("a rewrite of 200,001 values by one key is remarked", (0, [b"rewritten %d" % (MOST + 1)], 1, False), found)
-    done = call([AROUND, kmsrest_program(), "rewrite", "--config", one, "--store", room / "store"], timeout=600)
+    done = call([AROUND, kmsrest_program(), "rewrite", "--config", one, "--store", room / "store"])
     checks.expect("and not one that seals nothing anew", (0, ""), (done.status, done.errors))
     checks.expect("one more than a key is for is told", 1, len(said(room, one, sealed("k", FEW + 1))))
     checks.expect("so many as a key is for: nothing is said", [], said(room, one, sealed("k", FEW)))
@@ -86,5 +86,5 @@ def audited(checks: Checks, room: Path) -> None:
         keys = [base64.b64encode(b"/registry/%s/%d" % (places[number % 2].encode(), number)).decode() for number in range(count)]
         rows = [{"key": key, "create_revision": 2, "mod_revision": 2, "value": value} for key in keys]
         (room / "json").write_text(json.dumps({"header": {"cluster_id": 1, "revision": 5}, "kvs": rows, "count": count}))
-        done = call([TOP / "bridges" / "etcd-audit", "--json", room / "json"], timeout=300)
+        done = call([TOP / "bridges" / "etcd-audit", "--json", room / "json"])
         checks.expect(f"an audit of {count} values by one key", (0, wanted), (done.status, done.errors.splitlines()))

@@ -4,7 +4,7 @@ import os
 import sys
 from pathlib import Path
 
-from support import PATH, TOP, Checks, Ended, call, kmsrest_program
+from support import PATH, PATIENCE, TOP, Checks, Ended, call, kmsrest_program
 
 sys.path[:0] = [str(TOP), str(TOP / "bridges")]
 from reference import store  # noqa: E402 (its folder must be on the path first)
@@ -115,7 +115,7 @@ def kept(words: tuple, file) -> Ended:
     """A call whose standard input is a file."""
     import subprocess
 
-    done = subprocess.run([AROUND, kmsrest_program(), *map(str, words)], stdin=file, capture_output=True, timeout=60, check=False)
+    done = subprocess.run([AROUND, kmsrest_program(), *map(str, words)], stdin=file, capture_output=True, timeout=PATIENCE, check=False)
     return Ended(done.returncode, done.stdout, done.stderr.decode(), 0)
 
 

@@ -6,7 +6,7 @@ import subprocess
 import sys
 from pathlib import Path
 
-from support import BRIDGE, TOP, Checks, KmsServer, call, running
+from support import BRIDGE, PATIENCE, TOP, Checks, KmsServer, call, running
 
 sys.path.insert(0, str(TOP / "bridges"))
 from kms_bridge.annotations import is_domain_name  # noqa: E402
@@ -98,7 +98,7 @@ def _check_probe(checks: Checks, server: KmsServer, endpoint: str) -> None:
     wanted = "decrypt: these aren't the bytes that were wrapped"
     checks.expect("nor are other bytes", (1, ["status: ok", "encrypt: ok", wanted]), probe())
     server.says(troubles=[{"call": "Encrypt", "do": "hang"}])
-    status, lines = probe("--timeout", "200ms", "--retries", "0")
+    status, lines = probe("--timeout", "3s", "--retries", "0")
     checks.expect("nor is a call without an answer", (1, ["status: ok", "encrypt: DEADLINE_EXCEEDED"]), (status, lines))
 
 
@@ -197,13 +197,13 @@ def _refusal(done) -> tuple[int, str]:
 def _check_reader(checks: Checks, server: KmsServer, endpoint: str) -> None:
     """A bridge that waits for its plugin ends once nobody reads its answers; one whose answers are read answers all."""
     server.says(troubles=[{"call": "Encrypt", "do": "hang"}])
-    words = [str(BRIDGE), "--endpoint", endpoint, "--timeout", "300s"]
+    words = [str(BRIDGE), "--endpoint", endpoint, "--timeout", f"{2 * PATIENCE}s"]
     child = subprocess.Popen(words, stdin=subprocess.PIPE, stdout=subprocess.PIPE)
     child.stdin.write(b'{"call":"status"}\n{"call":"encrypt","plaintext":"AAAA","uid":"1"}\n')
     child.stdin.flush()
     checks.expect("a bridge answers", True, child.stdout.readline().startswith(b'{"healthz"'))
     child.stdout.close()
-    checks.expect("and ends with its reader, while its plugin says nothing", 4, child.wait(30))
+    checks.expect("and ends with its reader, while its plugin says nothing", 4, child.wait(PATIENCE))
     server.says()
     found = _answers(endpoint, [{"call": "status"}] * 3)
     checks.expect("one whose input has ended answers all the same", 3, len(found))

@@ -8,10 +8,12 @@ import time
 import uuid
 from pathlib import Path
 
-from support import BRIDGE, PATH, Checks, Ended, KmsServer, call, kmsrest_program, running
+from support import BRIDGE, PATH, PATIENCE, Checks, Ended, KmsServer, call, kmsrest_program, running
 
 FAULT = "kmsrest: fault plugin p 1"
 DATA = b"what is to be kept secret"
+# Seconds of a try: so long that each answer is there before, and so short that two tries without one end soon.
+LONG, SHORT = 120, 3
 CONFIG = """apiVersion: apiserver.config.k8s.io/v1
 kind: EncryptionConfiguration
 resources:
@@ -40,9 +42,9 @@ class Desk:
         self.plugin = ""
         self.bridge()
 
-    def bridge(self, *words: str, timeout: str = "3s") -> None:
+    def bridge(self, *words: str, seconds: int = LONG) -> None:
         """Writes the bridge's program anew, with these words."""
-        text = CONFIG.replace("ENDPOINT", self.endpoint).replace("TIMEOUT", timeout)
+        text = CONFIG.replace("ENDPOINT", self.endpoint).replace("TIMEOUT", f"{seconds}s")
         self.config.write_text(text, encoding="utf-8")
         shutil.rmtree(self.folder / "programs", ignore_errors=True)
         asked = [BRIDGE, "--into", self.folder / "programs", "--config", self.config, "--log", self.log, *words]
@@ -118,7 +120,7 @@ def _check_sealing(checks: Checks, desk: Desk) -> None:
     checks.expect("the log has both uids", [each["uid"] for each in asked], [each["sent"] for each in logged])
     checks.expect("also kmsrest's own", [True, True], [each["uid"].isdigit() for each in logged])
     checks.expect("the authority is localhost", {"localhost"}, {each["host"] for each in asked})
-    checks.expect("a call has a deadline of the timeout", [True] * 2, [2 < each["left"] < 3.1 for each in asked])
+    checks.expect("a call has a deadline of the timeout", [True] * 2, [LONG / 10 < each["left"] < LONG + 1 for each in asked])
     checks.expect("the log is its owner's alone", 0o600, desk.log.stat().st_mode & 0o777)
 
 
@@ -154,11 +156,11 @@ def _check_retries(checks: Checks, desk: Desk) -> None:
     desk.bridge("--retries", "1")
     desk.server.says(troubles=[{"call": "Encrypt", "do": "UNAVAILABLE", "to": 2}])
     _fails(checks, desk, "with one retry it is a fault")
-    desk.bridge("--retries", "1", timeout="300ms")
+    desk.bridge("--retries", "1", seconds=SHORT)
     desk.server.says(troubles=[{"call": "Encrypt", "do": "hang"}])
     done = _fails(checks, desk, "a plugin that hangs is a fault")
-    checks.expect("after its two deadlines", (2, True), (len(desk.server.calls("Encrypt")), 0.6 <= done.seconds < 10))
-    checks.expect("each of the timeout", [True] * 2, [0 < each["left"] < 0.31 for each in desk.server.calls("Encrypt")])
+    checks.expect("after its two deadlines", (2, True), (len(desk.server.calls("Encrypt")), 2 * SHORT <= done.seconds))
+    checks.expect("each of the timeout", [True] * 2, [0 < each["left"] < SHORT + 1 for each in desk.server.calls("Encrypt")])
     desk.server.says(troubles=[{"call": "Encrypt", "do": "hang", "to": 1}])
     checks.expect("one that hangs once is asked again", 0, desk.encrypt().status)
     desk.bridge()
@@ -173,14 +175,14 @@ def _check_late(checks: Checks, desk: Desk) -> None:
     finally:
         timer.join()
         desk.server.stop()
-    desk.bridge("--retries", "0", timeout="300ms")
+    desk.bridge("--retries", "0", seconds=SHORT)
     _fails(checks, desk, "nobody at the socket is a fault")
     desk.bridge()
 
 
 def _check_restart(checks: Checks, desk: Desk) -> None:
     """One bridge, and a server that dies between two of its lines."""
-    words = [BRIDGE, "--endpoint", desk.endpoint]
+    words = [BRIDGE, "--endpoint", desk.endpoint, "--timeout", f"{LONG}s"]
     with subprocess.Popen(words, stdin=subprocess.PIPE, stdout=subprocess.PIPE) as bridge:
         def status() -> str | None:
             bridge.stdin.write(b'{"call":"status"}\n')
@@ -192,8 +194,10 @@ def _check_restart(checks: Checks, desk: Desk) -> None:
         desk.server.says(current="k2")
         with running(desk.server):
             checks.expect("a server that was started anew is found again", ("k1", "k2"), (before, status()))
+        # (what it writes to goes on being read until it has ended: a bridge without a reader ends otherwise)
         bridge.stdin.close()
-    checks.expect("a bridge ends at its input's end", 0, bridge.returncode)
+        ended = bridge.wait(PATIENCE)
+    checks.expect("a bridge ends at its input's end", 0, ended)
 
 
 def _check_own_rotation(checks: Checks, desk: Desk) -> None:
@@ -202,11 +206,13 @@ def _check_own_rotation(checks: Checks, desk: Desk) -> None:
         checks.expect("objects are put", [0] * 5, [desk.put(name).status for name in names])
         desk.server.says(current="k2")
         checks.expect("under another key of the plugin an object is stale", (0, DATA, "stale"), desk.get("a"))
-        # One seed is wrapped for all, and each value's own is unwrapped.
+        # One seed is wrapped for all, and each value's own is unwrapped. (With a retry the bridge would wait for another server.)
+        desk.bridge("--retries", "0")
         desk.server.says(current="k2", troubles=[{"call": "Decrypt", "do": "die", "from": 3}])
         status, lines, line = desk.rewrite()
         checks.expect("a plugin that dies within a rewrite is a fault", (4, FAULT), (status, line))
         checks.expect("what was done is reported", ["rewritten 2", "fresh 0", "changed 0", "left 0"], lines)
+    desk.bridge()
     with running(desk.server):
         desk.server.says(current="k2")
         checks.expect("all objects are still read", [(0, DATA)] * 5, [desk.get(name)[:2] for name in names])

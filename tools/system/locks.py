@@ -2,10 +2,9 @@
 import os
 import shutil
 import subprocess
-import time
 from pathlib import Path
 
-from support import PATH, TOP, Checks, Ended, call, kmsrest_program
+from support import PATH, PATIENCE, TOP, Checks, Ended, call, kmsrest_program, wait_until
 
 IDENTITY = TOP / "examples" / "identity.yaml"
 KMS = TOP / "examples" / "kms.yaml"
@@ -35,7 +34,7 @@ def _check_readers(checks: Checks, store: Path) -> None:
     """Many lists of one store begin together: each has it, whoever else reads it."""
     words = [str(word) for word in (kmsrest_program(), "list", "--store", store)]
     lists = [subprocess.Popen(words, stdout=subprocess.PIPE, stderr=subprocess.PIPE) for _ in range(READERS)]
-    found = {(*each.communicate(timeout=60), each.returncode) for each in lists}
+    found = {(*each.communicate(timeout=PATIENCE), each.returncode) for each in lists}
     checks.expect(f"{READERS} lists at once", {(f"1 secrets {PATH} plain\n".encode(), b"", 0)}, found)
 
 
@@ -59,10 +58,7 @@ def _check_writer(checks: Checks, folder: Path, store: Path) -> None:
                           stderr=subprocess.PIPE, env=environment) as writer:
         writer.stdin.write(b"hello")
         writer.stdin.close()
-        for _ in range(1000):
-            if started.exists():
-                break
-            time.sleep(0.01)
+        wait_until(started.exists, "the plugin of a put is started", writer)
         beside = call([kmsrest_program(), "list", "--store", store])
         go.touch()
         output, errors = writer.stdout.read(), writer.stderr.read()

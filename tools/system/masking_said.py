@@ -2,6 +2,7 @@
 import base64
 import binascii
 import contextlib
+import functools
 import importlib.machinery
 import importlib.util
 import io
@@ -14,10 +15,11 @@ from collections.abc import Iterable, Iterator
 from pathlib import Path
 
 import explanations
+import plain_files
 from call_words import Call
 from masking_typos import Case
 from reference import configuration
-from support import TOP
+from support import PATIENCE as CALL, TOP
 
 # No so many characters in a row of a secret may be shown.
 RUN = 6
@@ -92,21 +94,21 @@ class Search:
 
 # ---- what is said
 
-# Seconds in which a file of these sizes is explained; more is a fault.
+# Seconds of a processor in which a file of these sizes is explained, which takes a hundredth of one; more is a fault.
 PATIENCE = 20
 
 
 def in_time(answer) -> list[str]:
     """An answer, or an error where nobody would wait for it."""
-    before = signal.signal(signal.SIGALRM, signal.default_int_handler)
-    signal.setitimer(signal.ITIMER_REAL, PATIENCE)
+    before = signal.signal(signal.SIGPROF, signal.default_int_handler)
+    signal.setitimer(signal.ITIMER_PROF, PATIENCE)
     try:
         return answer()
     except KeyboardInterrupt:
-        raise TimeoutError(f"no answer in {PATIENCE} seconds") from None
+        raise TimeoutError(f"no answer in {PATIENCE} seconds of a processor") from None
     finally:
-        signal.setitimer(signal.ITIMER_REAL, 0)
-        signal.signal(signal.SIGALRM, before)
+        signal.setitimer(signal.ITIMER_PROF, 0)
+        signal.signal(signal.SIGPROF, before)
 
 
 FAULT = "a fault of its own"
@@ -125,12 +127,32 @@ def guarded(answer) -> list[str]:
         return [FAULT, told.getvalue()]
 
 
+class OwnWords:
+    """What `explain` may show whatever a call's files hold, asked for runs of RUN characters without an end of line: those of its
+    sources, and of the names in the call."""
+
+    def __init__(self, call: Call):
+        self.names = "\n".join([*(name for name, _ in call.files()), *(program for _, program in call.plugins())])
+
+    @staticmethod
+    @functools.cache
+    def of_sources() -> frozenset[str]:
+        text = plain_files.own_texts()
+        return frozenset(text[at : at + RUN] for at in range(len(text) - RUN + 1))
+
+    def __contains__(self, run: str) -> bool:
+        return run in (self.of_sources() if len(run) == RUN else plain_files.own_texts()) or run in self.names
+
+
 class Said:
     """A room with files for calls, and what calls over them print."""
 
     def __init__(self, room: Path, program: Path | None):
         self.top, self.room, self.program = TOP, room, program
         self.explain = loaded(TOP / "help" / "explain")
+        # (what a call reads and looks through once is kept here, where thousands are made)
+        explanations.explainer = lambda: self.explain
+        plain_files.own_words = OwnWords
         # (as a program it says by its own words what ended it)
         self.within(self.explain.main, [])
         os.chdir(room)
@@ -178,7 +200,7 @@ class Said:
     def run(self, words: list[object], data: bytes = b"") -> str:
         """What a program prints, on both streams."""
         environment = {**os.environ, "KMSREST_EXPLAIN": "1"}
-        done = subprocess.run([str(word) for word in words], input=data, capture_output=True, timeout=60, check=False, env=environment)
+        done = subprocess.run([str(word) for word in words], input=data, capture_output=True, timeout=CALL, check=False, env=environment)
         return (done.stdout + done.stderr).decode(errors="replace")
 
     def front_end(self) -> list[object]:

@@ -1,5 +1,6 @@
 """Configurations with known secrets, and each kind of typo at each of their lines."""
 import base64
+import functools
 import json
 import random
 from collections.abc import Callable, Iterator
@@ -302,6 +303,13 @@ def secrets_of(draw: random.Random, number: int) -> tuple[str, ...]:
     return tuple(found)
 
 
+@functools.cache
+def lines_with_secret(form: Callable[..., str]) -> frozenset[int]:
+    """The lines of a form of file that hold one."""
+    marks = ("<1>", "<2>", "<3>")
+    return frozenset(at for at, line in enumerate(form(*marks).split("\n")) if any(mark in line for mark in marks))
+
+
 @dataclass(frozen=True)
 class Plan:
     """A typo at a line of a form of file, or, without a line, of the whole file."""
@@ -312,8 +320,7 @@ class Plan:
 
     def has_secret(self) -> bool:
         """Whether the line holds one."""
-        marks = ("<1>", "<2>", "<3>")
-        return self.at is None or any(mark in self.form(*marks).split("\n")[self.at] for mark in marks)
+        return self.at is None or self.at in lines_with_secret(self.form)
 
     def made(self, number: int, draw: random.Random) -> Case:
         secrets = secrets_of(draw, number)

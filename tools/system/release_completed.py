@@ -13,7 +13,7 @@ from release_made import Elsewhere
 from support import Checks
 
 # Seconds in which a shell must show what is waited for.
-PATIENCE = 60
+PATIENCE = 600
 PROMPT = "ready> "
 # A terminal's own signs, which move and colour and don't show.
 SIGNS = re.compile(r"\x1b(?:\[[0-9;?]*[A-Za-z]|[=>])|\r|\x07")

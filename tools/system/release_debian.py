@@ -5,7 +5,7 @@ from pathlib import Path
 
 import debian_root
 from debian_root import Root
-from etcd_server import EtcdServer
+from etcd_server import PATIENT, EtcdServer
 from release_made import NOBODY
 from support import TOP, Checks, call, skip
 
@@ -56,7 +56,7 @@ def audits(checks: Checks, root: Root, room: Path) -> None:
     with EtcdServer(room / "etcd-of-debian") as etcd:
         etcd.put(STORED, b"k8s\0plain")
         own = {"ETCDCTL_API": "3", "ETCDCTL_ENDPOINTS": etcd.endpoint}
-        for more in ({}, {"ETCDCTL": "etcdctl"}):
+        for more in ({}, {"ETCDCTL": " ".join(PATIENT)}):
             done = root.call("etcd-audit", user=NOBODY, **own, **more)
             checks.expect(f"etcd-audit {'by etcdctl' if more else 'by gRPC'}", b"1 secrets plain\n", done.output)
 

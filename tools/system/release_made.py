@@ -113,9 +113,9 @@ class Elsewhere:
         return call([*self.starter, *words], data, cwd=folder, env={**self.environment, **environment}, timeout=600)
 
     def judge(self, checks: Checks, folder: Path) -> None:
-        """What isn't there for that user. The check says where it can't be taken away."""
+        """What isn't there for that user, or is there and can't be entered. The check says where it can't be taken away."""
         if self.owner is None:
             print("(not root here: the release is tried by this user, who may see the repository)", flush=True)
             return
-        seen = self.call("sh", "-c", f"id -u; ls -A {TOP}; command -v rt", folder=folder)
+        seen = self.call("sh", "-c", f"id -u; ls -A {TOP} 2>/dev/null; command -v rt", folder=folder)
         checks.expect("another user, without the repository and without rt", (f"{NOBODY}\n".encode(), ""), (seen.output, seen.errors))

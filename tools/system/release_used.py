@@ -20,7 +20,7 @@ resources:
           apiVersion: v2
           name: p
           endpoint: ENDPOINT
-          timeout: 3s
+          timeout: 120s
 """
 SECRET = "--config kms.yaml --resource secrets --path /registry/secrets/d/s"
 SEAL_AND_READ = f"""\
@@ -82,7 +82,7 @@ def plugin(checks: Checks, place: Elsewhere, room: Path) -> None:
         (folder / "kms.yaml").write_text(KMS_CONFIGURATION.replace("ENDPOINT", f"unix://{socket}"), encoding="utf-8")
         with running(KmsServer(Path(near), "server", f"unix:{socket}")):
             socket.chmod(0o666)
-            probed = place.call("kms-bridge", "--endpoint", f"unix://{socket}", "--probe", folder=folder)
+            probed = place.call("kms-bridge", "--endpoint", f"unix://{socket}", "--timeout", "120s", "--probe", folder=folder)
             checks.expect("kms-bridge --probe over gRPC", 0, probed.status)
             done = place.call("bash", "-c", SEAL_AND_READ, folder=folder)
             checks.expect("a value by a plugin over gRPC", (b"kms p\nhello", "fresh"), (done.output, done.own_line))

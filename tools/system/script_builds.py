@@ -251,7 +251,7 @@ def cut_short(copy):
     (copy.top / "crates" / "kr_base" / "src" / "lib.rt").write_text("a")
     tools, begun = copy.room / "tools", copy.room / "begun"
     tools.mkdir()
-    (tools / "touch").write_text(f"#!/bin/sh\necho >{begun}\nexec sleep 600\n")
+    (tools / "touch").write_text(f"#!/bin/sh\necho >{begun}\nexec sleep 9999\n")
     (tools / "touch").chmod(0o755)
     folder = copy.program.parent
     found = copy.interrupted("check", path=f"{tools}:{SYSTEM}", until=begun.exists)

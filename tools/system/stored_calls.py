@@ -10,13 +10,12 @@ from concurrent.futures import ThreadPoolExecutor
 from dataclasses import dataclass
 from pathlib import Path
 
-from support import TOP
+from support import PATIENCE, TOP
 
 sys.path[:0] = [str(TOP / "tools" / "stored"), str(TOP)]
 from run_answers import MOST_PRINTED, ROOM, Case, cases_of  # noqa: E402 (their folder must be on the path first)
 
 STORED = TOP / "crates" / "test_run"
-SECONDS = 60
 NO_FAULTS = "0:0:0:0"
 # A name of a file has fewer bytes on Linux.
 LONGEST_NAME = 256
@@ -81,7 +80,7 @@ def left_by(program: Path, case: Case) -> Left:
         for name, content in [*case.files, *case.tapes]:
             (Path(room) / name).write_bytes(content)
         words = [word.encode() for word in case.words]
-        done = subprocess.run([program, *words], cwd=room, input=case.input, capture_output=True, timeout=SECONDS, check=False)
+        done = subprocess.run([program, *words], cwd=room, input=case.input, capture_output=True, timeout=PATIENCE, check=False)
         stores = [Path(room) / name for name in [*(name for name, _ in case.tapes), *case.absent]]
         return Left(
             done.returncode, done.stdout, done.stderr, {store.name: store.read_bytes() if store.exists() else None for store in stores}

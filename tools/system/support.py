@@ -4,7 +4,7 @@ import os
 import subprocess
 import sys
 import time
-from collections.abc import Mapping
+from collections.abc import Callable, Mapping
 from contextlib import contextmanager
 from dataclasses import dataclass
 from pathlib import Path
@@ -13,6 +13,8 @@ from typing import Any
 TOP = Path(__file__).resolve().parents[2]
 BRIDGE = TOP / "bridges" / "kms-bridge"
 PATH = "/registry/secrets/d/s"
+# Seconds in which whatever is waited for has come: ten times of what a slow and busy machine needs. Nothing is measured by them.
+PATIENCE = 600
 
 
 def kmsrest_program() -> Path:
@@ -65,7 +67,30 @@ class Ended:
         return lines[-1] if lines else ""
 
 
-def call(words: list[object], data: bytes = b"", timeout: float = 60, **options: Any) -> Ended:
+def wait_until(is_so: Callable[[], Any], what: str, child: subprocess.Popen | None = None) -> None:
+    """Waits until it is so. It is an error where it isn't in time, or where the child that is to bring it about has ended before."""
+    end = time.monotonic() + PATIENCE
+    while not is_so():
+        if child is not None and child.poll() is not None and not is_so():
+            raise RuntimeError(f"{what}: the program ended before, with {child.returncode}")
+        if time.monotonic() > end:
+            raise RuntimeError(f"{what}: not in {PATIENCE} seconds")
+        time.sleep(0.02)
+
+
+def stood_on(terminal: int) -> bytes:
+    """All that was written to a terminal, by its own end, once nobody has the other one. That end is closed."""
+    text = b""
+    try:
+        while piece := os.read(terminal, 65536):
+            text += piece
+    except OSError:  # (nobody has the other end any more)
+        pass
+    os.close(terminal)
+    return text
+
+
+def call(words: list[object], data: bytes = b"", timeout: float = PATIENCE, **options: Any) -> Ended:
     """Calls a program and waits for its end."""
     began = time.monotonic()
     done = subprocess.run(
@@ -98,7 +123,8 @@ class KmsServer:
         """Starts it, and waits until it listens."""
         words = ["/usr/bin/python3", TOP / "tools/system/kms-server", self.target, self._state, self._record]
         self._process = subprocess.Popen(words, stdout=subprocess.PIPE, stderr=subprocess.DEVNULL)
-        self._process.stdout.readline()
+        if not self._process.stdout.readline():
+            raise RuntimeError(f"kms-server doesn't listen at {self.target}: it ended with {self._process.wait(PATIENCE)}")
 
     def stop(self) -> None:
         """Ends it, where it hasn't ended by itself, and waits for it."""

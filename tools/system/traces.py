@@ -5,6 +5,8 @@ from collections.abc import Sequence
 from dataclasses import dataclass
 from pathlib import Path
 
+from support import PATIENCE
+
 CALLS = "openat,write,writev,pwrite64,ftruncate,fsync,fdatasync"
 WRITES = {"write", "writev", "pwrite64"}
 SYNCS = {"fsync", "fdatasync"}
@@ -93,6 +95,6 @@ def trace(words: Sequence[object], data: bytes, log: Path, inject: str = "") -> 
     if inject:
         options += ["-e", f"inject={inject}"]
     done = subprocess.run(
-        [*options, *(str(word) for word in words)], input=data, capture_output=True, timeout=120, check=False
+        [*options, *(str(word) for word in words)], input=data, capture_output=True, timeout=PATIENCE, check=False
     )
     return Traced(done, log.read_text(encoding="utf-8", errors="replace").splitlines())

@@ -16,7 +16,8 @@ from vet_cases import BOTH, LAST, NEW, OFF, OLD
 
 DOCUMENT = TOP / "docs" / "FORMATS.md"
 SECTION = "## What vet finds"
-MOST_SECONDS = 1.0
+# Processor seconds of a call: a quarter of one where this was measured.
+MOST_SECONDS = 3.0
 
 
 # ---- each code
@@ -74,7 +75,7 @@ def statuses(bench: Bench) -> None:
 
 
 def words(bench: Bench) -> None:
-    """The front end's word is the program, needs no build, and takes less than a second of a processor."""
+    """The front end's word is the program, needs no build, and takes a moment of a processor."""
     base, new = bench.file("base.yaml", OLD), bench.file("new.yaml", NEW)
     before = resource.getrusage(resource.RUSAGE_CHILDREN)
     by_program = call([PROGRAM, base, new, "--output", "json"])

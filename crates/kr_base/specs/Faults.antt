@@ -1,5 +1,5 @@
 -- Counts of faults: what an object of the outside answers as its cause.
-use Rattle.std.specs.Prelude.{◌≡◌, ℕ, ◌-◌, ◌^◌, ◌<◌, ◌≤◌, ◌⊎◌, Bool, if◌then◌else◌, Result, OnErr, is_err}
+use Rattle.std.specs.Prelude.{◌≡◌, ℕ, ◌-◌, ◌^◌, ◌<◌, ◌≤◌, ◌⊎◌, Bool, false, IsTrue, if◌then◌else◌, Result, Ok, Err, OnErr, is_err}
 use Rattle.kr_base.specs.Numbering.{next_number}
 
 -- the count is higher than it was; a count at its greatest value can't rise any more, and there
@@ -17,3 +17,17 @@ pub record IsCounted {T E : Type 0} (before now : ℕ) (result : Result T E) : T
   pub later : before ≤ now
   pub failed : OnErr result (Rose before now)
   pub once : now ≡ counted (is_err result) before
+
+-- whether an answer is that an object failed, by the errors that say so
+abbrev pub tells_fault : {T E : Type 0} → (E → Bool) → Result T E → Bool
+tells_fault is_fault (Ok x) = false
+tells_fault is_fault (Err why) = is_fault why
+
+-- no fault is hidden, and none is told as another answer, such as want of memory: the count rose by
+-- one where the answer is that this object failed, and is as before at every other answer. So a call
+-- that failed isn't made a second time
+pub record TellsFaults {T E : Type 0} (is_fault : E → Bool) (before now : ℕ) (result : Result T E)
+    : Type 0 where
+  pub later : before ≤ now
+  pub failed : IsTrue (tells_fault is_fault result) → Rose before now
+  pub once : now ≡ counted (tells_fault is_fault result) before

@@ -44,17 +44,19 @@ pub record OutputState : Type 0 where
   pub room : ℕ
   pub calls : Calls
 
--- a tape with the bytes that it holds, the bytes that it has room for in all, and its calls that
--- read and that write
+-- a tape with the bytes that it holds, the bytes that it has room for in all, its calls that read and
+-- that write, and those that settle it
 pub record TapeState : Type 0 where
   pub bytes : List ℕ
   pub room : ℕ
   pub reads : Calls
   pub writes : Calls
+  pub settles : Calls
 
 -- how many of its calls failed in all, up to the greatest number
 abbrev pub faults_of : TapeState → ℕ
-faults_of tape = min (tape.reads.faults + tape.writes.faults) (2 ^ 64 - 1)
+faults_of tape =
+    min (tape.reads.faults + tape.writes.faults + tape.settles.faults) (2 ^ 64 - 1)
 
 -- how many bytes a write that failed has left at its place: none where there is no room for all of
 -- them, else half of them

@@ -1,5 +1,5 @@
 //! A tape in memory.
-ghost use Rattle.std.specs.Prelude.{◌≡◌, ◌++◌, ◌+◌, ◌-◌, ◌<◌, ◌≤◌, ◌/◌, min, nat_lt, length, take, drop, true, Some, IsOk, OnOk, IfOk, IfSome, MatchResult};
+ghost use Rattle.std.specs.Prelude.{◌≡◌, ◌++◌, ◌+◌, ◌-◌, ◌<◌, ◌≤◌, ◌/◌, min, nat_lt, length, take, drop, true, false, Some, OnOk, IfOk, IfSome, MatchResult};
 ghost use Rattle.std.specs.Io.{ReadsAtMost};
 ghost use Rattle.kr_base.specs.Faults.{IsCounted};
 ghost use Rattle.kr_base.specs.InMemory.{Makes, faults_of, left_by_fault};
@@ -12,16 +12,17 @@ use crate::list::List;
 use crate::traits::Tape;
 use std::marker::Model;
 
-/// A tape in memory. Its calls fail by their numbers, those that read and those that write each
-/// counted from 1, and where a write would bring it above its room. A `put_at` that fails by its
-/// number leaves half of its bytes at their place, as a write that was broken off; a `cut` that
-/// fails leaves all as before.
+/// A tape in memory. Its calls fail by their numbers, those that read, those that write and those
+/// that settle it each counted from 1, and where a write would bring it above its room. A `put_at`
+/// that fails by its number leaves half of its bytes at their place, as a write that was broken off;
+/// a `cut` that fails leaves all as before.
 #[derive(Drop)]
 pub struct MemTape {
     bytes: Vec<u8>,
     room: usize,
     reads: CallLog,
     writes: CallLog,
+    settles: CallLog,
 }
 
 impl Model for MemTape {
@@ -35,6 +36,7 @@ impl Model for MemTape {
       room = tape.room;
       reads = tape.reads;
       writes = tape.writes;
+      settles = tape.settles;
     } };
 
     ghost invariant = { λ tape. (vec_len tape.bytes ≤ tape.room)
@@ -44,12 +46,13 @@ impl Model for MemTape {
 impl MemTape {
     /// A tape that holds the content and has room for `room` bytes in all. It reserves them here,
     /// and takes no memory later. `read_fails` numbers the calls of `len` and `read_at`,
-    /// `write_fails` those of `put_at` and `cut`.
+    /// `write_fails` those of `put_at` and `cut`, `settle_fails` those of `settle`.
     pub fn new(
         content: Bytes,
         room: usize,
         read_fails: List<u64>,
         write_fails: List<u64>,
+        settle_fails: List<u64>,
     ) -> Result<MemTape, NoMemory>
         requires { length content ≤ room }
         ensures { IfOk result (λ tape. tape ≡ record {
@@ -57,6 +60,7 @@ impl MemTape {
           room = room;
           reads = record { fails = read_fails.0; made = 0; faults = 0 };
           writes = record { fails = write_fails.0; made = 0; faults = 0 };
+          settles = record { fails = settle_fails.0; made = 0; faults = 0 };
         }) }
     {
         let mut bytes = content.into_vec();
@@ -66,6 +70,7 @@ impl MemTape {
             room,
             reads: CallLog::new(read_fails),
             writes: CallLog::new(write_fails),
+            settles: CallLog::new(settle_fails),
         })
     }
 
@@ -85,6 +90,7 @@ impl MemTape {
           room = self.old.room;
           reads = self.old.reads;
           writes = self.old.writes;
+          settles = self.old.settles;
         } }
     {
         let over = bytes.len().min(self.bytes.len() - at);
@@ -103,6 +109,8 @@ impl Tape for MemTape {
 
     ghost settled = { λ tape. true };
 
+    ghost loose = { λ tape. false };
+
     ghost count = { faults_of };
 
     fn len(&mut self) -> Result<u64, Failed>
@@ -113,6 +121,7 @@ impl Tape for MemTape {
         // As the trait says.
         ensures length { IfOk result (λ n. n ≡ length self.old.bytes) }
         ensures same { Some self.new.bytes ≡ Some self.old.bytes }
+        ensures cuts { false ≡ false }
         ensures cause { IsCounted (faults_of self.old) (faults_of self.new) result }
     {
         if self.reads.fails(false) {
@@ -134,6 +143,7 @@ impl Tape for MemTape {
         ensures bound { ReadsAtMost result into.new }
         ensures bytes { IfOk result (λ n. ReadsAt (Some self.old.bytes) at n into.new) }
         ensures same { Some self.new.bytes ≡ Some self.old.bytes }
+        ensures cuts { false ≡ false }
         ensures cause { IsCounted (faults_of self.old) (faults_of self.new) result }
     {
         if self.reads.fails(false) {
@@ -146,7 +156,8 @@ impl Tape for MemTape {
     }
 
     fn put_at(&mut self, at: u64, bytes: &[u8]) -> Result<(), Failed>
-        requires { at ≤ length self.old.bytes }
+        requires place { at ≤ length self.old.bytes }
+        requires cuts { false ≡ false }
         ensures calls { Makes self.old.writes self.new.writes
             (self.old.room < at + length bytes.now) result }
         ensures kept { self.new
@@ -160,6 +171,7 @@ impl Tape for MemTape {
 
         // As the trait says.
         ensures bytes { PutsAt (Some self.old.bytes) (Some self.new.bytes) at bytes.now result }
+        ensures cuts { false ≡ false }
         ensures cause { IsCounted (faults_of self.old) (faults_of self.new) result }
     {
         let start = at as usize;
@@ -193,20 +205,27 @@ impl Tape for MemTape {
         Ok(())
     }
 
-    // What is in memory stands there: it never fails, and isn't numbered among the calls that do.
+    // What is in memory stands there, also where this fails.
     fn settle(&mut self) -> Result<(), Failed>
-        ensures ok { IsOk result }
-        ensures kept { self.new ≡ self.old }
+        ensures calls { Makes self.old.settles self.new.settles ⊥ result }
+        ensures kept { self.new ≡ record self.old { settles = self.new.settles } }
 
         // As the trait says.
         ensures settled { OnOk result (true ≡ true) }
         ensures same { Some self.new.bytes ≡ Some self.old.bytes }
+        ensures cuts { OnOk result (false ≡ false) }
         ensures cause { IsCounted (faults_of self.old) (faults_of self.new) result }
     {
+        if self.settles.fails(false) {
+            return Err(Failed);
+        }
         Ok(())
     }
 
     fn faults(&self) -> u64 {
-        self.reads.faults().saturating_add(self.writes.faults())
+        self.reads
+            .faults()
+            .saturating_add(self.writes.faults())
+            .saturating_add(self.settles.faults())
     }
 }

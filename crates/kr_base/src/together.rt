@@ -8,7 +8,8 @@ pub fn both<A: Drop, B: Drop, E: Drop>(
     second: Result<B, E>,
 ) -> Result<(A, B), E>
     ensures both { IfOk result (λ pair. (first ≡ Ok pair.0) × (second ≡ Ok pair.1)) }
-    ensures refused { IfErr result (λ why. (first ≡ Err why) ⊎ (second ≡ Err why)) }
+    ensures refused { IfErr result
+        (λ why. (first ≡ Err why) ⊎ (IsOk first × (second ≡ Err why))) }
 {
     match first {
         Ok(first) => match second {

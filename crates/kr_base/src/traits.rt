@@ -1,6 +1,6 @@
 //! The outside as the crates above see it: what is told of its content, and how often it failed.
 //! A count of faults rises by one where a call answers `Failed`, and never else.
-ghost use Rattle.std.specs.Prelude.{◌≡◌, ℕ, ◌≤◌, List, length, Option, Bool, true, IfOk, OnOk, IfSome, MatchResult};
+ghost use Rattle.std.specs.Prelude.{◌≡◌, ℕ, ◌≤◌, List, length, Option, Bool, true, false, IfOk, OnOk, IfSome, MatchResult};
 ghost use Rattle.std.specs.Io.{ReadsAtMost, WritesAtMost};
 ghost use Rattle.std.specs.Io.KnownBytes.{ReadConsumes, WriteAppends, Consumes, Keeps};
 ghost use Rattle.kr_base.specs.Faults.{IsCounted};
@@ -75,12 +75,17 @@ pub trait Tape {
     // Whether all that it holds stands on the device, so that a loss of power takes none of it.
     ghost settled: { Self → Bool };
 
+    // Whether it may have been cut since it was settled last. What is put behind a cut that isn't on
+    // the device may stand there beside what was cut off.
+    ghost loose: { Self → Bool };
+
     ghost count: { Self → ℕ };
 
     /// How many bytes it holds.
     fn len(&mut self) -> Result<u64, Failed>
         ensures length { IfOk result (λ n. IfSome (told self.old) (λ bytes. n ≡ length bytes)) }
         ensures same { told self.new ≡ told self.old }
+        ensures cuts { loose self.new ≡ loose self.old }
         ensures cause { IsCounted (count self.old) (count self.new) result };
 
     /// Reads the bytes from `at` to the front of the buffer, as many as fit and are there.
@@ -89,13 +94,16 @@ pub trait Tape {
         ensures bound { ReadsAtMost result into.new }
         ensures bytes { IfOk result (λ n. ReadsAt (told self.old) at n into.new) }
         ensures same { told self.new ≡ told self.old }
+        ensures cuts { loose self.new ≡ loose self.old }
         ensures cause { IsCounted (count self.old) (count self.new) result };
 
     /// Puts the bytes at `at`; those behind them stay. After a fault the bytes before `at` are as
-    /// before, and the rest is any bytes.
+    /// before, and the rest is any bytes. Where it was cut, that is settled first.
     fn put_at(&mut self, at: u64, bytes: &[u8]) -> Result<(), Failed>
-        requires { IfSome (told self.old) (λ held. at ≤ length held) }
+        requires place { IfSome (told self.old) (λ held. at ≤ length held) }
+        requires cuts { loose self.old ≡ false }
         ensures bytes { PutsAt (told self.old) (told self.new) at bytes.now result }
+        ensures cuts { loose self.new ≡ false }
         ensures cause { IsCounted (count self.old) (count self.new) result };
 
     /// Lets the tape end at `len`. After a fault the bytes before it are as before, and the rest is
@@ -109,6 +117,7 @@ pub trait Tape {
     /// loss of power takes none of it. After a fault nothing is known of what stands there.
     fn settle(&mut self) -> Result<(), Failed>
         ensures settled { OnOk result (settled self.new ≡ true) }
+        ensures cuts { OnOk result (loose self.new ≡ false) }
         ensures same { told self.new ≡ told self.old }
         ensures cause { IsCounted (count self.old) (count self.new) result };
 

@@ -1,6 +1,5 @@
 -- What a fleet leaves, from the first worker's outfit on: how it comes to its workers, and what
 -- they did.
-use Rattle.kr_base.specs.Faults.{Rose}
 use Rattle.std.proofs.Common.{◌≡◌, ◌≢◌, ℕ, ◌+◌, ◌<◌, ◌≤◌, Bool, false, List, [], ◌∷◌, ◌++◌, length, map, get_or, Option, None, Some, Result, Ok, Err, refl, sym, ◌∙◌, ap, subst, inr, arith, ◌⊎◌, true, inl}
 use Rattle.std.specs.Prelude.{All, IfSome, sum, if◌then◌else◌}
 use Rattle.std.specs.List.{IsDistinct}
@@ -13,10 +12,11 @@ use Rattle.kr_kms.specs.Exchanges.{Exchange}
 use Rattle.kr_kms.specs.Outside.{Objects, same_name, same_seat}
 use Rattle.kr_kms.proofs.Lent.{names_decide, seats_decide}
 use Rattle.kr_rollout.specs.Cores.{CoreState}
-use Rattle.kr_rollout.specs.Histories.{IsLegal, state_of}
+use Rattle.kr_rollout.specs.Histories.{IsLegal, ends_torn, state_of}
 use Rattle.kr_history.proofs.NoNames.{no_names_no_plugin}
 use Rattle.kr_history.proofs.WithoutPlugin.{honest_without_plugin}
 use Rattle.kr_rollout.specs.Openings.{opening_by}
+use Rattle.kr_rollout.specs.declared.opening.Entry.{Entry}
 use Rattle.kr_rollout.specs.declared.opening.Opening.{Opening}
 use Rattle.kr_script.specs.Fleets.{worker_of}
 use Rattle.kr_script.specs.declared.script.Part.{Part}
@@ -84,41 +84,38 @@ pub closed_at_once : (core : CoreState) (store : Kept) → core.history ≡ []
     → store.rows ≡ (state_of core.opening core.history).rows
     → store.count ≡ (state_of core.opening core.history).count
     → store.format ≡ core.opening.format
-    → (store.torn ≡ true → (core.opening.torn ≡ true) ⊎ Rose core.opening.count store.count)
-    → Holds store → KeepsStore core.opening core.opening.rows store
+    → store.torn ≡ ends_torn core.opening core.history
+    → Holds store → KeepsStore core.opening [] store
 closed_at_once core store none rows count format torn holds = record {
   rows_are = rows ∙ ap (λ h. (state_of core.opening h).rows) none;
   format = format;
   later = let e = count ∙ ap (λ h. (state_of core.opening h).count) none in omega (arith, e);
-  torn = torn;
+  torn = torn ∙ ap (λ h. ends_torn core.opening h) none;
   holds = holds;
 }
 
 -- ---- the store's tape
 
 held_rows : (begun : Begun) (rows : List LogRow) (format : Format) (file : List ℕ)
-    (torn : Bool) (told : Option (List ℕ)) (before now : ℕ) → format ≡ begun.stored.format
-    → IsFile format rows file → (torn ≡ true → Rose before now)
+    (torn : Bool) (told : Option (List ℕ)) → format ≡ begun.stored.format
+    → IsFile format rows file
     → IfSome told (λ bytes. (rest : List ℕ) × (bytes ≡ file ++ rest)
-    × (torn ≡ false → rest ≡ [])) → HasRows (option_map Some told) begun rows before now
-held_rows begun rows format file torn None before now same is rose held = tt
-held_rows begun rows format file false (Some bytes) before now same is rose held =
+    × (torn ≡ false → rest ≡ [])) → HasRows (option_map Some told) begun rows torn
+held_rows begun rows format file torn None same is held = tt
+held_rows begun rows format file false (Some bytes) same is held =
     (file, held.0, subst (λ f. IsFile f rows file) same is, held.1, inl (held.2 refl))
-held_rows begun rows format file true (Some bytes) before now same is rose held =
-    (file, held.0, subst (λ f. IsFile f rows file) same is, held.1, inr (rose refl))
-
-tore : (torn : Bool) {P : Type 0} → torn ≡ false → (torn ≡ true) ⊎ P → P
-tore torn whole (inl t) = absurd (let e : true ≡ false = sym t ∙ whole in cc)
-tore torn whole (inr p) = p
+held_rows begun rows format file true (Some bytes) same is held =
+    (file, held.0, subst (λ f. IsFile f rows file) same is, held.1, inr refl)
 
 -- the tape begins with the file of what the store keeps
-pub has_rows : (begun : Begun) (o : Opening) (rows : List LogRow) (store : Kept)
-    → o.format ≡ begun.stored.format → o.torn ≡ false → KeepsStore o rows store
-    → HasRows (option_map Some store.told) begun rows o.count store.count
-has_rows begun o rows store same whole kept = held_rows begun rows store.format kept.holds.0
-    store.torn store.told o.count store.count (kept.format ∙ same)
-    (subst (λ r. IsFile store.format r kept.holds.0) kept.rows_are kept.holds.1)
-    (λ t. tore o.torn whole (kept.torn t)) kept.holds.4
+pub has_rows : (begun : Begun) (o : Opening) (history : List Entry) (store : Kept)
+    → o.format ≡ begun.stored.format → KeepsStore o history store
+    → HasRows (option_map Some store.told) begun (state_of o history).rows (ends_torn o history)
+has_rows begun o history store same kept =
+    let rows = (state_of o history).rows in
+    subst (HasRows (option_map Some store.told) begun rows) kept.torn
+    (held_rows begun rows store.format kept.holds.0 store.torn store.told (kept.format ∙ same)
+    (subst (λ r. IsFile store.format r kept.holds.0) kept.rows_are kept.holds.1) kept.holds.4)
 
 module _ (name : List ℕ) (a : Environment) where
   -- with the store's tape, of which this is told
@@ -363,27 +360,23 @@ module _ {L D : Type 0} (link : L → Link) (step : L → Exchange → L → Typ
           heard = stays (λ b. b.heard) (λ seat outfit b. refl) refl;
         }
 
-        stored : (rows : List LogRow) → KeepsStore o rows kept
-            → HasRows ((With back kept).world.tapes.told name) begun rows
-            (Mid.world.tapes.faults name) ((With back kept).world.tapes.faults name)
-        stored rows k =
-            let before : o.count ≡ Mid.world.tapes.faults name =
-            ap (λ (p : Opening). p.count) opens ∙ count_is in
-            let whole : o.torn ≡ false = ap (λ (p : Opening). p.torn) opens ∙ sound.1 in
-            let told = (With back kept).world.tapes.told name in
-            subst (λ n. HasRows told begun rows (Mid.world.tapes.faults name) n) (sym count_now)
-            (subst (λ m. HasRows told begun rows m kept.count) before
-            (subst (λ t. HasRows t begun rows o.count kept.count)
+        stored : (history : List Entry) → KeepsStore o history kept
+            → HasRows ((With back kept).world.tapes.told name) begun (state_of o history).rows
+            (ends_torn o history)
+        stored history k =
+            subst (λ t. HasRows t begun (state_of o history).rows (ends_torn o history))
             (sym (beside (λ b. b.world.tapes.told name) (λ seat outfit b. refl) back kept
             ∙ over_told name a kept.told kept.count))
-            (has_rows begun o rows kept (ap (λ (p : Opening). p.format) opens) whole k)))
+            (has_rows begun o history kept (ap (λ (p : Opening). p.format) opens) k)
 
     -- memory lacked for the workers
-    pub unhired : (T : Type 0) → (kept : Kept) → KeepsStore o o.rows kept
+    pub unhired : (T : Type 0) → (kept : Kept) → KeepsStore o [] kept
         → (back : List (Outfit L D)) → back ≡ outs
         → LacksWorkers T link step left count Next name first (With back kept) NoMemory
     unhired T kept k back are =
         let same = later_refl link left count outs in
+        let whole : o.torn ≡ false = ap (λ (p : Opening). p.torn) opens ∙ sound.1 in
+        let tape = (With outs kept).world.tapes.told name in
         subst (λ os. LacksWorkers T link step left count Next name first
         (With os kept) NoMemory) (sym are) (record {
           stops = refl;
@@ -391,9 +384,9 @@ module _ {L D : Type 0} (link : L → Link) (step : L → Exchange → L → Typ
           mid = Mid;
           does = all_does;
           none = record {
-            stored = subst (λ rows. HasRows ((With outs kept).world.tapes.told name) begun rows
-                (Mid.world.tapes.faults name) ((With outs kept).world.tapes.faults name))
-                (ap (λ (p : Opening). p.rows) opens) (stored kept outs same o.rows k);
+            stored = subst (HasRows tape begun store.rows) whole
+                (subst (λ rows. HasRows tape begun rows o.torn) (ap (λ (p : Opening). p.rows) opens)
+                (stored kept outs same [] k));
             links = ap (λ (l : LinksOf). l.told)
                 (same_links link left count 0 outs (Over_now kept) (Over_now store) refl);
             dice = ap (λ (d : DiceOf). d.told)
@@ -447,9 +440,8 @@ module _ {L D : Type 0} (link : L → Link) (step : L → Exchange → L → Typ
             after = workers_equipped link left count plan.programs distinct r.ended back
                 r.outfits_are back_named (Over_now kept);
             stored = subst (λ p. HasRows ((With back kept).world.tapes.told name) begun
-                (state_of p r.history).rows (Mid.world.tapes.faults name)
-                ((With back kept).world.tapes.faults name)) opening_is
-                (stored kept back (further_on made r) (state_of o r.history).rows r.kept);
+                (state_of p r.history).rows (ends_torn p r.history)) opening_is
+                (stored kept back (further_on made r) r.history r.kept);
             counted = count_now kept back (further_on made r) ∙ r.counted
                 ∙ ap (λ (p : Opening). (state_of p r.history).count) opening_is;
             rest = rest kept back (further_on made r);

@@ -16,7 +16,7 @@ use Rattle.kr_kms.specs.declared.world.Access.TheVariants.{ToMake}
 use Rattle.kr_provider.specs.Names.{names_of}
 use Rattle.kr_provider.specs.PluginOrder.{plugin_order}
 use Rattle.kr_provider.specs.Publication.{Publication}
-use Rattle.kr_rollout.specs.Histories.{state_of}
+use Rattle.kr_rollout.specs.Histories.{ends_torn, state_of}
 use Rattle.kr_history.specs.Honesty.{IsHonest}
 use Rattle.kr_opening.specs.Replicas.{settings_of}
 use Rattle.kr_opening.specs.Starts.{IsNoStart, MayStart}
@@ -209,14 +209,14 @@ AreEquipped {T} {L} {D} link left count programs around workers = (seat : ℕ)
     → IsEquipped link left count programs seat around (get_or workers seat d).bench.links
     (get_or workers seat d).bench.dice
 
--- the tape begins with the file of the store's rows, if it tells, and is no more than that where
--- its count of faults didn't rise
-abbrev pub HasRows : Option (Option (List ℕ)) → Begun → List LogRow → (before now : ℕ) → Type 0
-HasRows (Some (Some bytes)) begun rows before now = (file : List ℕ) × (rest : List ℕ)
+-- the tape begins with the file of the store's rows, if it tells, and is no more than that unless a
+-- write has failed since the last one that was done
+abbrev pub HasRows : Option (Option (List ℕ)) → Begun → List LogRow → (torn : Bool) → Type 0
+HasRows (Some (Some bytes)) begun rows torn = (file : List ℕ) × (rest : List ℕ)
     × IsFile begun.stored.format rows file × (bytes ≡ file ++ rest)
-    × ((rest ≡ []) ⊎ Rose before now)
-HasRows (Some None) begun rows before now = ⊥
-HasRows None begun rows before now = ⊤
+    × ((rest ≡ []) ⊎ (torn ≡ true))
+HasRows (Some None) begun rows torn = ⊥
+HasRows None begun rows torn = ⊤
 
 -- beside the links and random sources of so many seats and the store's tape all is as it was when
 -- the workers started; so is what was heard up to there: the exchanges of the workers' lines stand
@@ -241,8 +241,8 @@ pub record LeavesRest (store : List ℕ) (seats : ℕ) (mid new : Environment) :
 -- with that. It is legal (without a program for a plugin honest whatever sources open to), with the
 -- lines of each worker, whose bench kept no seed when it began, and with nothing else.
 -- What it says of the replies follows: the headline, and the law `replies_are_true` of kr_workers.
--- The store has the opening's rows and the written entries', and its count is that of the last
--- line; what the workers had is back.
+-- The store has the opening's rows and the written entries', and no more unless the last write of
+-- all failed; its count is that of the last line; what the workers had is back.
 pub record RunsFleet {T L D : Type 0} (link : L → Link)
     (step : L → Exchange → L → Type 0)
     (left : D → Option (List ℕ)) (count : D → ℕ) (store : List ℕ) (begun : Begun)
@@ -265,16 +265,15 @@ pub record RunsFleet {T L D : Type 0} (link : L → Link)
       → IsHonest any (opening_of store begun mid) history
   pub after : AreEquipped link left count begun.plan.programs new ended
   pub stored : HasRows (new.world.tapes.told store) begun
-      (state_of (opening_of store begun mid) history).rows (mid.world.tapes.faults store)
-      (new.world.tapes.faults store)
+      (state_of (opening_of store begun mid) history).rows
+      (ends_torn (opening_of store begun mid) history)
   pub counted : new.world.tapes.faults store
       ≡ (state_of (opening_of store begun mid) history).count
   pub rest : LeavesRest store (length begun.plan.fleet.workers) mid new
 
 -- no worker was started: the store has its rows, and what the workers would have had is as it was
 pub record StartsNone (store : List ℕ) (begun : Begun) (mid new : Environment) : Type 0 where
-  pub stored : HasRows (new.world.tapes.told store) begun begun.stored.rows
-      (mid.world.tapes.faults store) (new.world.tapes.faults store)
+  pub stored : HasRows (new.world.tapes.told store) begun begun.stored.rows false
   pub links : new.world.links.told ≡ mid.world.links.told
   pub dice : new.world.dice.told ≡ mid.world.dice.told
   pub rest : LeavesRest store (length begun.plan.fleet.workers) mid new

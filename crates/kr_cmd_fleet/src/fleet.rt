@@ -136,6 +136,7 @@ fn run_fleet_on_tape<R: Threads + Wait + Sync, W: World>(
     world: &mut W,
 ) -> (Result<Record, Stop>, W::Tap)
     requires plan { IsWholePlan (plan_of plan.now) }
+    requires cuts { W.Tap.loose tape ≡ false }
     ensures made { StartsLent W.Link.link W.lent W.took W.Link.step (W.told world.old)
         (W.told world.new) (λ es begun back. StaysIdle result.0 begun back
         × ((name : Name) (a : Environment)

@@ -116,6 +116,7 @@ fn run_load_on_tape<R: Threads + Wait + Sync, T: Tape + Send, L: Kms + Send>(
     requires plan { IsLoadPlan plan.now }
     requires four { length outfits.0 ≡ 4 }
     requires bare { AreBare outfits.0 }
+    requires cuts { T.loose tape ≡ false }
     ensures made { (name : Name) (a : Environment) → IsUnheard a
         → RunsBy T L.link L.step left_in link_faults (Anyhow T L StreamState) false
         (and_then (stored_on Object.Store name) (load_beginning (plan_of plan.now))) name

@@ -33,6 +33,7 @@ pub mod OpeningSteps
 pub mod Parts
 pub mod Plain
 pub mod Planned
+pub mod PrintedPlans
 pub mod Questions
 pub mod ReadOnly
 pub mod Readings

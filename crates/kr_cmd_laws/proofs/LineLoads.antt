@@ -10,7 +10,7 @@ use Rattle.kr_kms.specs.Health.{TellsKeyIdBy, judged, no_status as tells_none}
 use Rattle.kr_kms.specs.Seeds.{MakesSeedBy, dice_failed, made, no_memory as makes_nothing, no_status, not_wrapped, unhealthy}
 use Rattle.kr_kms.specs.declared.health.SeedNo.{SeedNo}
 use Rattle.kr_kms.specs.declared.seeds.SeedRow.{SeedRow}
-use Rattle.kr_provider.specs.Exchanges.{MakesSeedsBy, PublishesBy, all_made, no_room, refused, went_on}
+use Rattle.kr_provider.specs.Exchanges.{MakesSeedsBy, PublishesBy, all_made, no_name, no_room, refused, went_on}
 use Rattle.kr_provider.specs.Publication.{Publication}
 use Rattle.kr_provider.specs.declared.refusal.PublishNo.{PublishNo}
 use Rattle.kr_history.specs.Acting.{Caller}
@@ -91,8 +91,10 @@ keys_statuses : (seeds : List SeedRow) (result : Result Bool CallNo) (es : List 
 keys_statuses _ _ _ all_same = no_statuses
 keys_statuses _ _ _ (changed {exchanges = es} row rest key_id tells other) =
     key_statuses row.name tells.0 es tells.1
-keys_statuses _ _ _ (told_none {exchanges = es} row rest cause why tells is) =
+keys_statuses _ _ _ (told_none {exchanges = es} row rest cause why (inl tells) is) =
     key_statuses row.name tells.0 es tells.1
+keys_statuses _ _ _ (told_none row rest cause why (inr lacks) is) =
+    subst Statuses (sym lacks.1) no_statuses
 keys_statuses _ _ _ (compared_on {exchanges = es} {others = fs} {result = result} row rest tells
     more) = more_statuses es fs (key_statuses row.name tells.0 es tells.1)
     (keys_statuses rest result fs more)
@@ -220,6 +222,7 @@ module _ {D : Type 0} (left : D → Option (List ℕ)) (count : D → ℕ) where
     seeds_load passed dice _ _ _ (all_made none) = same_loads dice dice [] no_statuses refl
     seeds_load passed dice _ _ _ (refused {after = after} {exchanges = es} name why cause next
         makes told) = seed_loads name dice after (Err why) es makes
+    seeds_load passed dice _ _ _ (no_name name next) = same_loads dice dice [] no_statuses refl
     seeds_load passed dice _ _ _ (no_room {after = after} {exchanges = es} name row next makes) =
         seed_loads name dice after (Ok row) es makes
     seeds_load passed dice _ _ _ (went_on {between = between} {after = after} {exchanges = es}

@@ -1,12 +1,17 @@
 -- What no call for a fleet leaves once its workers were started.
-use Rattle.std.specs.Prelude.{◌≢◌, map}
+use Rattle.std.specs.Prelude.{◌≢◌, fold, map}
 use Rattle.std.specs.Io.KnownBytes.{Appends}
 use Rattle.std.specs.Option.{option_map}
-use Rattle.std.proofs.Common.{◌≡◌, ℕ, List, [], ◌++◌, Option, None, Some, ◌⊎◌, inl, inr, refl, ap, sym, subst, ◌∙◌, append-nil, arith}
+use Rattle.std.proofs.Common.{◌≡◌, ℕ, Bool, true, false, List, [], ◌++◌, Option, None, Some, ◌⊎◌, inl, inr, refl, ap, sym, subst, ◌∙◌, append-nil, arith}
 use Rattle.std.proofs.lemmas.Option.{none-some, same_Some}
 use Rattle.kr_base.specs.Faults.{Rose}
 use Rattle.kr_kms.specs.Calls.{Link}
 use Rattle.kr_kms.specs.Exchanges.{Exchange}
+use Rattle.kr_rollout.specs.Histories.{IsLegal, ends_torn, state_of}
+use Rattle.kr_rollout.specs.Openings.{start_of}
+use Rattle.kr_rollout.specs.declared.opening.Entry.{Entry}
+use Rattle.kr_rollout.specs.declared.opening.Opening.{Opening}
+use Rattle.kr_history.proofs.TornTails.{torn_is_told}
 use Rattle.kr_script.specs.declared.told.Told.{Told}
 use Rattle.kr_store.specs.File.{IsFile}
 use Rattle.kr_store.specs.Rows.{live}
@@ -18,7 +23,8 @@ use Rattle.kr_workers.specs.declared.ending.Ending.TheVariants as ending
 use Rattle.kr_workers.specs.declared.worker.Worker as fleet_worker
 use Rattle.kr_workers.proofs.Ends.{endings_are_told}
 use Rattle.kr_cmd_messages.specs.Receipts.{Receipt, Tells}
-use Rattle.kr_cmd_fleet.specs.Fleets.{Begun, HasRows, settled_behind, text_of}
+use Rattle.kr_cmd_fleet.specs.Fleets.{Begun, HasRows, opening_of, settled_behind, text_of}
+use Rattle.kr_headline.proofs.Standing.{faults_are}
 use Rattle.kr_cmd_laws.specs.RunHeadlines.{Prints}
 use Rattle.kr_cmd_laws.specs.WrongRuns.{EachRunIsWrong}
 
@@ -99,15 +105,25 @@ no_revision : (row : Option Row) → revision_in row ≡ None → row ≡ None
 no_revision None is = refl
 no_revision (Some row) is = absurd (none-some row.revision (sym is))
 
-is_the_file : (begun : Begun) (rows : List LogRow) (before now : ℕ) (bytes : List ℕ)
-    → HasRows (Some (Some bytes)) begun rows before now → (Rose before now → ⊥)
+is_the_file : (begun : Begun) (rows : List LogRow) (torn : Bool) (bytes : List ℕ)
+    → HasRows (Some (Some bytes)) begun rows torn → (torn ≡ true → ⊥)
     → IsFile begun.stored.format rows bytes
-is_the_file begun rows before now bytes h well = by h.4
+is_the_file begun rows torn bytes h well = by h.4
   where
-    by : (h.1 ≡ []) ⊎ Rose before now → IsFile begun.stored.format rows bytes
+    by : (h.1 ≡ []) ⊎ (torn ≡ true) → IsFile begun.stored.format rows bytes
     by (inl none) = subst (λ (b : List ℕ). IsFile begun.stored.format rows b)
         (sym (append-nil h.0) ∙ ap (λ (l : List ℕ). h.0 ++ l) (sym none) ∙ sym h.3) h.2
-    by (inr rose) = absurd (well rose)
+    by (inr tail) = absurd (well tail)
+
+-- a write that failed raised the count of a store that was whole
+has_risen : (o : Opening) (history : List Entry) (now : ℕ) → IsLegal o history → o.torn ≡ false
+    → now ≡ fold (λ (n : ℕ) (e : Entry). e.line.faults) o.count history
+    → ends_torn o history ≡ true → Rose o.count now
+has_risen o history now legal whole count tail = by (torn_is_told.rose o history legal tail)
+  where
+    by : (o.torn ≡ true) ⊎ Rose o.count (state_of o history).count → Rose o.count now
+    by (inl torn) = absurd (let e : true ≡ false = sym torn ∙ whole in cc)
+    by (inr rose) = subst (Rose o.count) (sym (count ∙ faults_are (start_of o) history)) rose
 
 pub each_run_is_wrong : (T : Type 0) → {L D : Type 0} → (link : L → Link)
     (step : L → Exchange → L → Type 0) (lent took : ℕ → L → Type 0)
@@ -119,10 +135,10 @@ each_run_is_wrong T {L} {D} link step lent took left count words old new output 
     let told : List (List Told × ℕ) =
     map (λ (w : fleet_worker.Worker T L D). w.told) s.ended in
     let stored = s.has.page.stored in
-    let before : ℕ = (settled_behind words.store s.mid).world.tapes.faults words.store in
+    let o = opening_of words.store s.begun (settled_behind words.store s.mid) in
+    let torn : Bool = ends_torn o s.history in
     let now : ℕ = new.world.tapes.faults words.store in
-    let Has : Option (Option (List ℕ)) → Type 0 =
-    λ t. HasRows t s.begun stored.rows before now in record {
+    let Has : Option (Option (List ℕ)) → Type 0 = λ t. HasRows t s.begun stored.rows torn in record {
       done_undone = done_undone text told output errors status s.prints;
       other_status = other_status text told output errors status s.prints;
       cut_short = cut_short text told output errors status s.prints;
@@ -132,7 +148,11 @@ each_run_is_wrong T {L} {D} link step lent took left count words old new output 
       other_revision = λ path revision row is lives other. other (same_Some row.revision revision
           (sym (ap revision_in lives) ∙ stored.live_are path ∙ is));
       other_rows = λ other. other stored.latest;
-      other_file = λ bytes told_is other well. other (is_the_file s.begun stored.rows before now
-          bytes (subst Has told_is stored.file) well);
+      other_file = λ bytes told_is other well. other (is_the_file s.begun stored.rows torn
+          bytes (subst Has told_is stored.file)
+          (λ tail. well (has_risen o s.history now s.has.tied.legal refl stored.failed tail)));
+      other_tail = λ bytes told_is other whole. other (is_the_file s.begun stored.rows torn
+          bytes (subst Has told_is stored.file)
+          (λ tail. let e : true ≡ false = sym tail ∙ whole in cc));
       no_file = λ told_is. subst Has told_is stored.file;
     }

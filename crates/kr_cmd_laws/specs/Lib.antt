@@ -5,6 +5,7 @@ pub mod FleetLaws
 pub mod FleetPlugins
 pub mod HeadlineLaws
 pub mod LineQuestions
+pub mod PlanLaws
 pub mod PluginLaws
 pub mod Results
 pub mod RunHeadlines

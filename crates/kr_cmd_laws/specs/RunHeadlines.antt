@@ -10,7 +10,7 @@ use Rattle.kr_kms.specs.Calls.{Link}
 use Rattle.kr_kms.specs.Exchanges.{AgreeAll, Exchange}
 use Rattle.kr_kms.specs.Opens.{Opens}
 use Rattle.kr_history.specs.Honesty.{SeedsOpen}
-use Rattle.kr_rollout.specs.Histories.{state_of}
+use Rattle.kr_rollout.specs.Histories.{ends_torn, state_of}
 use Rattle.kr_rollout.specs.declared.opening.Entry.{Entry}
 use Rattle.kr_script.specs.Fleets.{worker_of}
 use Rattle.kr_script.specs.declared.script.Part.{Part}
@@ -50,14 +50,16 @@ revision_behind rows history path = option_map (λ (it : Object). it.revision)
 
 -- The file has the rows of the store with those that the history wrote behind them, sealed values
 -- and all. A row lives at a path exactly where something stands there after the history, and has
--- its revision: so the next call begins with what this one ends with. The store's count of faults
+-- its revision: so the next call begins with what this one ends with, also behind a write that
+-- failed, since a row that is written after that cuts the file first. Only where a write has failed
+-- since the last row that was written may more stand behind the rows. The store's count of faults
 -- is that of the last step
 pub record LeavesStore (store : List ℕ) (begun : Begun) (mid new : Environment)
     (history : List Entry) : Type 0 where
   pub rows : List LogRow
   pub rows_are : rows ≡ (state_of (opening_of store begun mid) history).rows
-  pub file : HasRows (new.world.tapes.told store) begun rows (mid.world.tapes.faults store)
-      (new.world.tapes.faults store)
+  pub file : HasRows (new.world.tapes.told store) begun rows
+      (ends_torn (opening_of store begun mid) history)
   pub live_are : (path : List ℕ) → option_map (λ (row : Row). row.revision) (live rows path)
       ≡ revision_behind begun.stored.rows history path
   pub latest : length rows ≡ fold (λ (now : ℕ) (e : Entry). latest_revision e.line.gave now)

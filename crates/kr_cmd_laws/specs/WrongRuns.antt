@@ -1,10 +1,11 @@
 -- What no call for a fleet leaves once its workers were started: statuses that say too little, and
 -- a store that hasn't what the journal left. Each of these would contradict `StartsWorkers`.
-use Rattle.std.specs.Prelude.{◌≡◌, ◌≢◌, ℕ, List, length, fold, map, Option, None, Some}
+use Rattle.std.specs.Prelude.{◌≡◌, ◌≢◌, ℕ, false, List, length, fold, map, Option, None, Some}
 use Rattle.std.specs.Io.KnownBytes.{Appends}
 use Rattle.kr_base.specs.Faults.{Rose}
 use Rattle.kr_kms.specs.Calls.{Link}
 use Rattle.kr_kms.specs.Exchanges.{Exchange}
+use Rattle.kr_rollout.specs.Histories.{ends_torn}
 use Rattle.kr_rollout.specs.declared.opening.Entry.{Entry}
 use Rattle.kr_script.specs.declared.told.Told.{Told}
 use Rattle.kr_store.specs.File.{IsFile}
@@ -19,7 +20,7 @@ use Rattle.kr_headline.specs.Headline.{latest_revision}
 use Rattle.kr_cmd_messages.specs.Receipts.{Receipt}
 use Rattle.kr_cmd_messages.specs.declared.fleet_words.FleetWords.{FleetWords}
 use Rattle.kr_cmd_steps.specs.Environment.{Environment}
-use Rattle.kr_cmd_fleet.specs.Fleets.{settled_behind, text_of}
+use Rattle.kr_cmd_fleet.specs.Fleets.{opening_of, settled_behind, text_of}
 use Rattle.kr_cmd_laws.specs.RunHeadlines.{StartsWorkers, revision_behind}
 
 module _ (T : Type 0) {L D : Type 0} (link : L → Link)
@@ -68,6 +69,11 @@ module _ (T : Type 0) {L D : Type 0} (link : L → Link)
           → (IsFile s.begun.stored.format rows bytes → ⊥)
           → (Rose ((settled_behind words.store s.mid).world.tapes.faults words.store)
           (new.world.tapes.faults words.store) → ⊥) → ⊥
+      -- or though a row was written since the last write that failed
+      pub other_tail : (bytes : List ℕ) → new.world.tapes.told words.store ≡ Some (Some bytes)
+          → (IsFile s.begun.stored.format rows bytes → ⊥)
+          → ends_torn (opening_of words.store s.begun (settled_behind words.store s.mid)) s.history
+          ≡ false → ⊥
       -- a store that is gone
       pub no_file : new.world.tapes.told words.store ≡ Some None → ⊥
 

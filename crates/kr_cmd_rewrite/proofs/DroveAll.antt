@@ -13,8 +13,9 @@ use Rattle.kr_store.proofs.Listings.{listing_once}
 use Rattle.kr_history.specs.declared.call.CallNo.{CallNo}
 use Rattle.kr_rollout.specs.declared.opening.Opening.{Opening}
 use Rattle.kr_history.specs.Acting.{Caller, IsCaller, only_caller}
+use Rattle.kr_history.proofs.TornTails.{torn_rose}
 use Rattle.kr_rollout.specs.Cores.{CoreState}
-use Rattle.kr_rollout.specs.Histories.{IsRun, state_of}
+use Rattle.kr_rollout.specs.Histories.{IsRun, ends_torn, state_of}
 use Rattle.kr_rollout.specs.Openings.{start_of}
 use Rattle.kr_opening.specs.Replicas.{current_from, generations_from}
 use Rattle.kr_rewrite.specs.DriveExchanges.{Ahead, ReadsRow}
@@ -118,8 +119,7 @@ module _ {L D : Type 0} (link : L → Link) (first last : List L)
     (store : Kept) (rows_are : store.rows ≡ (state_of closed.opening closed.history).rows)
     (count_is : store.count ≡ (state_of closed.opening closed.history).count)
     (format_is : store.format ≡ closed.opening.format)
-    (torn : store.torn ≡ true → (closed.opening.torn ≡ true)
-    ⊎ Rose closed.opening.count store.count)
+    (torn : store.torn ≡ ends_torn closed.opening closed.history)
     (store_holds : Holds store) (bounded : store.count < 2 ^ 64) (drawn : count dice ≤ count after)
     (name : List ℕ) (a : Environment) (live : List Row) (told : Option (List ℕ)) (p : Publication)
     (is : IsListing core.opening.rows live)
@@ -154,15 +154,22 @@ module _ {L D : Type 0} (link : L → Link) (first last : List L)
     count_now : store.count ≡ (state_of core.opening new.seen).count
     count_now = count_is ∙ (λ i. (state_of (opening_is i) (seen_is i)).count)
 
+    torn_now : store.torn ≡ ends_torn core.opening new.seen
+    torn_now = torn ∙ (λ i. ends_torn (opening_is i) (seen_is i))
+
+    runs : IsRun core.opening (start_of core.opening) new.seen
+    runs = subst (λ (x : Opening). IsRun x (start_of x) new.seen) stays known_now.legal.runs
+
     later : core.opening.count ≤ store.count
     later =
-        let more = counted_on core.opening (start_of core.opening) new.seen
-        (subst (λ (x : Opening). IsRun x (start_of x) new.seen) stays known_now.legal.runs) in
+        let more = counted_on core.opening (start_of core.opening) new.seen runs in
         let e = count_now in omega (arith, more, e)
 
     rose : store.torn ≡ true → Rose core.opening.count store.count
     rose t = whole_then core.opening.torn alone.whole
-        (subst (λ (x : Opening). (x.torn ≡ true) ⊎ Rose x.count store.count) opening_is (torn t))
+        (subst (λ n. (core.opening.torn ≡ true) ⊎ Rose core.opening.count n) (sym count_now)
+        (torn_rose core.opening (start_of core.opening) core.opening.torn new.seen runs
+        (sym torn_now ∙ t)))
 
     by_end : (made : Result Outcome Stop) → EndsSo link first last store left count
         (only_caller core) olds dice report new news after made

@@ -1,7 +1,5 @@
 -- A core that was driven by its only caller: its exchanges are those of the links that it had.
-use Rattle.std.proofs.Common.{◌≡◌, ℕ, ◌^◌, ◌<◌, ◌≤◌, List, [], ◌∷◌, true, Option, Some, Result, Ok, Err, Contains, refl, sym, subst, append-nil}
-use Rattle.std.specs.Prelude.{◌⊎◌}
-use Rattle.kr_base.specs.Faults.{Rose}
+use Rattle.std.proofs.Common.{◌≡◌, ℕ, ◌^◌, ◌<◌, ◌≤◌, List, [], ◌∷◌, Option, Some, Result, Ok, Err, Contains, refl, sym, subst, append-nil}
 use Rattle.kr_kms.specs.Cache.{CacheState}
 use Rattle.kr_kms.specs.Calls.{Link}
 use Rattle.kr_kms.specs.Exchanges.{Exchange}
@@ -15,7 +13,7 @@ use Rattle.kr_history.specs.Acting.{Caller, IsCaller, only_caller}
 use Rattle.kr_history.specs.declared.call.CallNo.{CallNo}
 use Rattle.kr_history.specs.declared.call.CallNo.TheVariants as no
 use Rattle.kr_rollout.specs.Cores.{CoreState}
-use Rattle.kr_rollout.specs.Histories.{state_of}
+use Rattle.kr_rollout.specs.Histories.{ends_torn, state_of}
 use Rattle.kr_rewrite.specs.DriveExchanges.{IsDriveBy, before, behind}
 use Rattle.kr_rewrite.specs.declared.outcome.Report.{Report}
 use Rattle.kr_cmd_messages.specs.declared.refusal.Ended.{Ended}
@@ -89,8 +87,7 @@ module _ {L : Type 0} (link : L → Link) (first last : List L) (distinct : AreD
         (store : Kept) (rows_are : store.rows ≡ (state_of closed.opening closed.history).rows)
         (count_is : store.count ≡ (state_of closed.opening closed.history).count)
         (format_is : store.format ≡ closed.opening.format)
-        (torn : store.torn ≡ true → (closed.opening.torn ≡ true)
-        ⊎ Rose closed.opening.count store.count)
+        (torn : store.torn ≡ ends_torn closed.opening closed.history)
         (store_holds : Holds store) (bounded : store.count < 2 ^ 64)
         (drawn : count dice ≤ count after) (name : List ℕ) (a : Environment) (live : List Row)
         (told : Option (List ℕ)) (p : Publication)

@@ -103,6 +103,7 @@ fn rewrite_on_tape<W: World>(
 ) -> (Ended, W::Tap)
     requires programs { map (λ program. program.plugin) programs.now
         ≡ plugin_order (rows_of settings.entries.0) }
+    requires cuts { W.Tap.loose tape ≡ false }
     ensures ended { Heard W.Link.link W.lent W.took W.Link.step 0
         (W.told world.old) (W.told world.new) [] [] (λ es. (name : Name) (a : Environment)
         → Does
@@ -151,6 +152,7 @@ fn rewrite_on_tape<W: World>(
 /// Loads the store of a tape. Where the tape's count of faults can't rise any more, a write that
 /// failed couldn't be told, so the tape counts as failed.
 fn load_counted<T: Tape>(alloc: Global, tape: T) -> Result<Store<T>, (Stop, T)>
+    requires cuts { T.loose tape ≡ false }
     ensures ok { IfOk result (λ store. (name : Name) (a : Environment)
         → Does (stored_on object.Store name)
         (with_lent_tape name (T.told tape) (T.count tape) a)

@@ -1,6 +1,7 @@
 -- A row that is added to a store, whose tape is out.
 use Rattle.std.proofs.Common.{◌≡◌, ◌≢◌, ℕ, ◌+◌, ◌<◌, ◌≤◌, List, [], ◌∷◌, ◌++◌, length, Bool, false, Option, None, Some, Result, Ok, Err, refl, sym, ◌∙◌, ap, subst, inl, inr, append-nil, length-append, arith}
 use Rattle.std.specs.Prelude.{IfOk, IfSome, IsSome, is_some, codes, decimal, true}
+use Rattle.kr_base.specs.Faults.{counted}
 use Rattle.kr_base.specs.Limits.{store_limit}
 use Rattle.kr_store.specs.File.{IsFile, magic, row_bytes, rows_bytes}
 use Rattle.kr_store.specs.Rows.{delete_of, live}
@@ -15,6 +16,7 @@ use Rattle.kr_cmd_steps.specs.Phases.{adding, silently}
 use Rattle.kr_cmd_steps.specs.StoreSteps.{revision_line}
 use Rattle.kr_cmd_steps.specs.Steps.{Steps, give, and_then}
 use Rattle.kr_cmd_steps.specs.StoreFiles.{Stored, with_row, HoldsRows, BeginsWith}
+use Rattle.kr_cmd_steps.specs.inner.Counting.{is_fault}
 use Rattle.kr_cmd_steps.specs.inner.Lent.{with_lent_tape}
 use Rattle.kr_cmd_steps.specs.inner.Phases.{Does}
 use Rattle.kr_cmd_steps.specs.inner.Tapes.{HasOneMore, IsWriteStop, answered, grown_by, stored_of}
@@ -118,6 +120,18 @@ refused_so old new row put is = subst (λ r. Puts old new row r) is put
 pub unchanged : (old new : Kept) (row : LogRow) (why : PutNo) → refusal.Refusal old new row why
     → (revision : ℕ) → why ≢ refused.Changed revision
 unchanged old new row why r revision is = subst (λ w. refusal.Refusal old new row w) is r
+
+-- a row that wasn't written counts a fault where that is told, and else none
+pub refused_counted : (old new : Kept) (row : LogRow) (object : Object) (faults : ℕ) (why : PutNo)
+    (stop : Stop) → refusal.Refusal old new row why → IsWriteStop object faults why stop
+    → new.count ≡ counted (is_fault stop) old.count
+refused_counted old new row object faults refused.Failed stop f is =
+    f.once ∙ ap (λ s. counted (is_fault s) old.count) (sym is)
+refused_counted old new row object faults (refused.Full needed) stop kept is =
+    ap (λ k. k.count) kept.0 ∙ ap (λ s. counted (is_fault s) old.count) (sym is)
+refused_counted old new row object faults (refused.Changed revision) stop f is = absurd f
+refused_counted old new row object faults refused.NoMemory stop kept is =
+    ap (λ k. k.count) kept ∙ ap (λ s. counted (is_fault s) old.count) (sym is)
 
 pub rows_kept : (old new : Kept) (row : LogRow) (why : PutNo) → refusal.Refusal old new row why
     → new.rows ≡ old.rows

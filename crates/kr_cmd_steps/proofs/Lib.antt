@@ -4,6 +4,7 @@ pub mod Adding
 pub mod Apart
 pub mod BenchTalks
 pub mod Configured
+pub mod Counting
 pub mod EmptyFiles
 pub mod Ends
 pub mod Frames

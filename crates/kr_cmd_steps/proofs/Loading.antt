@@ -2,18 +2,19 @@
 use Rattle.std.proofs.Common.{◌≡◌, ℕ, ◌≤◌, List, length, Option, None, Some, Result, Ok, Err, refl, sym, ◌∙◌, ap, subst, inl, inr, arith}
 use Rattle.std.specs.Prelude.{Bool, true, false, if◌then◌else◌}
 use Rattle.std.specs.Option.{option_map}
-use Rattle.kr_base.specs.Faults.{Rose}
+use Rattle.kr_base.specs.Faults.{Rose, counted}
 use Rattle.kr_base.specs.Limits.{store_limit}
 use Rattle.kr_base.specs.Told.{Agrees}
 use Rattle.kr_kms.specs.Outside.{same_name}
 use Rattle.kr_store.specs.File.{IsFile}
-use Rattle.kr_store.specs.Stores.{Kept, Loads, HasBreach}
+use Rattle.kr_store.specs.Stores.{Kept, Loads, HasBreach, load_failed}
 use Rattle.kr_store.specs.declared.answers.StoreNo.{StoreNo}
 use Rattle.kr_store.specs.declared.answers.StoreNo.TheVariants as no
 use Rattle.kr_cmd_steps.specs.Environment.{Environment, IsStateOf, StepsEndAt, IsHome, Ends}
 use Rattle.kr_cmd_steps.specs.Phases.{stored_on}
 use Rattle.kr_cmd_steps.specs.Steps.{Steps, scanning, Point, awaits, StepState, with_told}
 use Rattle.kr_cmd_steps.specs.StoreFiles.{Stored, IsStored, store_no}
+use Rattle.kr_cmd_steps.specs.inner.Counting.{is_fault}
 use Rattle.kr_cmd_steps.specs.inner.Lent.{with_lent_tape}
 use Rattle.kr_cmd_steps.specs.inner.Phases.{Does}
 use Rattle.kr_cmd_steps.specs.inner.Tapes.{load_stop, stored_of}
@@ -170,6 +171,24 @@ module _ (name : List ℕ) (told : Option (List ℕ)) (before : ℕ) (a : Enviro
           home = tape_home store.count later;
           ends = λ left s. scans bytes store.count (Ok (stored_of store)) later is (short, file) s;
         })
+
+-- a tape that wasn't loaded counts a fault where that is told, and else none
+stop_failed : (object : Object) (faults : ℕ) (why : StoreNo)
+    → load_failed why ≡ is_fault (load_stop object faults why)
+stop_failed object faults no.Magic = refl
+stop_failed object faults (no.Torn at) = refl
+stop_failed object faults (no.BadRow at) = refl
+stop_failed object faults (no.Order at) = refl
+stop_failed object faults no.TooLong = refl
+stop_failed object faults no.Failed = refl
+stop_failed object faults no.NoMemory = refl
+
+pub load_counted : (before now : ℕ) (object : Object) (faults : ℕ) (why : StoreNo) (stop : Stop)
+    → now ≡ counted (load_failed why) before → stop ≡ load_stop object faults why
+    → now ≡ counted (is_fault stop) before
+load_counted before now object faults why stop once is = once
+    ∙ ap (λ failed. counted failed before)
+    (stop_failed object faults why ∙ sym (ap is_fault is))
 
 -- a store that is closed gives the tape back as it is
 pub as_closed : {A : Type 0} (next : Steps A) (name : List ℕ) (a old : Environment)

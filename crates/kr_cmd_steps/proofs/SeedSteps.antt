@@ -19,7 +19,7 @@ use Rattle.kr_kms.specs.declared.plugin.Status.{Status}
 use Rattle.kr_kms.specs.declared.plugin.Wrapped.{Wrapped}
 use Rattle.kr_kms.specs.declared.seeds.SeedRow.{SeedRow}
 use Rattle.kr_provider.specs.AskedLinks.{AskedOnly}
-use Rattle.kr_provider.specs.Exchanges.{IsRefusalAt, MakesSeedsBy, PublishesBy, all_made, no_room, refused, went_on, with_seed_first}
+use Rattle.kr_provider.specs.Exchanges.{IsRefusalAt, MakesSeedsBy, PublishesBy, all_made, no_name, no_room, refused, went_on, with_seed_first}
 use Rattle.kr_provider.specs.Names.{AreDistinct, names_of}
 use Rattle.kr_provider.specs.PluginOrder.{plugin_order}
 use Rattle.kr_provider.specs.Publication.{Publication}
@@ -66,14 +66,12 @@ module _ (name : List ℕ) (h : Halt) where
   -- it is where the plugin's own steps end, or memory lacks
   by_refusal : (why : SeedNo) (refusal : PublishNo) → IsRefusalAt name why refusal
       → MayHalt refusal h → (h ≡ halt_of name why) ⊎ ((h ≡ lacks) × (why ≢ no_seed.DiceFailed))
-  by_refusal no_seed.Failed refusal (inl is) may = inl (so is may)
-  by_refusal no_seed.Failed refusal (inr is) may = inr (so is may, λ e. absurd (cc))
+  by_refusal no_seed.Failed refusal is may = inl (so is may)
   by_refusal no_seed.DiceFailed refusal is may = inl (so is may)
-  by_refusal (no_seed.Unhealthy field text) refusal (inl is) may = elim (so is may) [
+  by_refusal (no_seed.Unhealthy field text) refusal is may = elim (so is may) [
     | inl e ↦ inl e
     | inr e ↦ inr (e, λ q. absurd (cc))
   ]
-  by_refusal (no_seed.Unhealthy field text) refusal (inr is) may = inr (so is may, λ e. absurd (cc))
   by_refusal no_seed.NoMemory refusal is may = inl (so is may)
 
 none_behind : (front behind : List (List ℕ)) → front ++ behind ≡ front → behind ≡ []
@@ -329,6 +327,14 @@ module _ {L D : Type 0} (link : L → Link) (left : D → Option (List ℕ))
               (λ q. e.1 cc) makes told)
         ])
 
+    -- there is no memory for its name, so it isn't asked
+    first_unnamed : Comes (name ∷ names) (Here a dice) (with_exchanges [] (Here a dice))
+        (Err publishing.NoMemory)
+    first_unnamed h is l s =
+        halts_on (make_seed name) (others names) h
+        (subst (λ k. StepsEndAt (make_seed name) l (with_exchanges [] (Here a dice)) (point_at k))
+        (sym is) (reach l (inl (refl, refl)) (stays_heard {left = l} [] l.heard (heard_none l.heard) s)))
+
     -- it makes one, for which there is no memory
     first_lacks : (row : SeedRow) → MakesSeedBy left count name dice (Ok row) after es
         → Comes (name ∷ names) (Here a dice) (with_exchanges es (Here a after))
@@ -374,6 +380,12 @@ module _ {L D : Type 0} (link : L → Link) (left : D → Option (List ℕ))
         subst (λ n. Comes n (Here a dice) (with_exchanges es (Here a after)) (Err refusal))
         (sym names)
         (first_halts a name there.0 dice after es told why refusal makes is)
+    seeds_come a passed dice _ _ _ (no_name name next) front behind p order told =
+        let there = stands_next p next in
+        let names = same_behind front behind (name ∷ there.0) (sym order ∙ there.1) in
+        subst (λ n. Comes n (Here a dice) (with_exchanges [] (Here a dice))
+        (Err publishing.NoMemory)) (sym names)
+        (first_unnamed a name there.0 dice dice [] told)
     seeds_come a passed dice _ after es (no_room name row next makes) front behind p order
         told =
         let there = stands_next p next in

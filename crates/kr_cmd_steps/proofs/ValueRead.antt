@@ -378,7 +378,7 @@ module _ {L D : Type 0} (link : L → Link) (left : D → Option (List ℕ)) (co
       → Rises before now result → Seals left count seeds who path plain old new result
       → IsStateOf l Undrawn
       → Ends (value_sealed seeds who path plain) l Undrawn Drawn (sealed_end now result)
-  sealed_ends who seeds path plain (Ok value) l fits r (bytes, all, is, c, same) s =
+  sealed_ends who seeds path plain (Ok value) l fits r (bytes, all, is, c, same, calm) s =
       enough (draws (draw_size who) (sealed_by seeds who path plain) bytes value l all.0 is c s)
   sealed_ends who seeds path plain (Err (seal.TooLarge size)) l fits r (e, large, same) s =
       absurd (omega (arith, fits, large))
@@ -387,7 +387,7 @@ module _ {L D : Type 0} (link : L → Link) (left : D → Option (List ℕ)) (co
       subst (λ w. StepsEndAt (value_sealed seeds w path plain) l Drawn (gives None)) (sym e)
       (enough (reach l (ap (λ o. gives o) (sym none), refl)
       (same_left l same s)))
-  sealed_ends who seeds path plain (Err seal.DiceFailed) l fits r (short, draws_so, rose, k) s =
+  sealed_ends who seeds path plain (Err seal.DiceFailed) l fits r (short, draws_so, rose, k, once) s =
       (drawing 0, undrawn who seeds path plain l draws_so k s, (refl, r, refl))
   sealed_ends who seeds path plain (Err seal.NoMemory) l fits r same s =
       inr (reach l (inl (refl, refl)) (same_left l same s))

@@ -76,7 +76,7 @@ module _ {L D : Type 0} (link : L → Link) (left : D → Option (List ℕ)) (co
       goes_on Sealed value_steps None (does tt) (declined (Value LooksEncrypted) Drawn)
   seals_by (Err (seal.TooLarge size)) fits (e, large, same) does =
       absurd (omega (arith, fits, large))
-  seals_by (Err seal.DiceFailed) fits (short, draws, rose, k) does =
+  seals_by (Err seal.DiceFailed) fits (short, draws, rose, k, once) does =
       stops Sealed value_steps (Fault (Dice 0) (count new)) (does rose)
   seals_by (Err seal.NoMemory) fits made does = stops Sealed value_steps NoMemory (does tt)
 

@@ -1,4 +1,5 @@
 -- The definitions of inner contracts.
+pub mod Counting
 pub mod Lent
 pub mod Phases
 pub mod Plugins

@@ -1,5 +1,6 @@
 //! The phases that commands are made of.
 ghost use Rattle.std.specs.Prelude.{◌≡◌, ◌<◌, ◌≤◌, ℕ, List, Ok, Err, length, IfOk, IfErr, OnErr};
+ghost use Rattle.kr_base.specs.Faults.{counted, tells_fault};
 ghost use Rattle.kr_kms.specs.Outside.{KeepsFiles, KeepsObjects, file_faults};
 ghost use Rattle.kr_kms.specs.declared.world.WorldCall.{WorldCall};
 ghost use Rattle.kr_cmd_steps.specs.Environment.{Environment, with_world};
@@ -7,6 +8,7 @@ ghost use Rattle.kr_cmd_steps.specs.Phases.{configuration, input_of, input_limit
 ghost use Rattle.kr_cmd_steps.specs.Ran.{Reports, Writes};
 ghost use Rattle.kr_cmd_messages.specs.Receipts.{receipt};
 ghost use Rattle.kr_cmd_messages.specs.declared.refusal.Refusal.{Refusal};
+ghost use Rattle.kr_cmd_steps.specs.inner.Counting.{is_fault};
 ghost use Rattle.kr_cmd_steps.specs.inner.Lent.{with_told_input};
 ghost use Rattle.kr_cmd_steps.specs.inner.Phases.{Does, DiceLoan, DiceReturn, LinkLoan, LinkReturn, AskedFor, Configures, ReadsRows, TakesInput, LendsNothing, rows_in, shown_as};
 ghost use Rattle.kr_cmd_steps.specs.inner.Reporting.{said_text};
@@ -36,6 +38,10 @@ pub fn configure<W: World>(alloc: Global, world: &mut W, name: &str) -> Result<S
 /// refusal needs no memory.
 pub fn load_settings<W: World>(alloc: Global, world: &mut W, name: &str) -> Result<Settings, Stop>
     ensures settings { Configures (W.told world.old) (W.told world.new) name.now result }
+    ensures once { (W.told world.new).faults.loads
+        ≡ counted (tells_fault is_fault result) (W.told world.old).faults.loads }
+    ensures kind { (W.told world.new).faults
+        ≡ record (W.told world.old).faults { loads = (W.told world.new).faults.loads } }
     ensures asked { AskedFor (W.told world.old).asked (W.told world.new).asked
         (WorldCall.File name.now) result }
     ensures files { KeepsFiles (W.told world.old) (W.told world.new) }
@@ -88,6 +94,7 @@ pub fn take_input<I: Source>(
         (with_told_input (I.left input.old) (I.count input.old) a)
         (with_told_input (I.left input.new) (I.count input.new) a) result }
     ensures fits { IfOk result (λ bytes. length bytes ≤ input_limit direction) }
+    ensures once { I.count input.new ≡ counted (tells_fault is_fault result) (I.count input.old) }
 {
     match direction {
         Direction::Encrypt => take(alloc, input, DATA_LIMIT, Limit::Data),
@@ -101,6 +108,7 @@ fn take<I: Source>(alloc: Global, input: &mut I, limit: u64, which: Limit) -> Re
         (I.count input.old) (I.count input.new) result }
     ensures fits { IfOk result (λ bytes. length bytes ≤ limit) }
     ensures later { I.count input.old ≤ I.count input.new }
+    ensures once { I.count input.new ≡ counted (tells_fault is_fault result) (I.count input.old) }
 {
     match read_all(alloc, input, limit) {
         Ok(bytes) => Ok(bytes),
@@ -117,6 +125,10 @@ pub fn open_dice<W: World>(alloc: Global, world: &mut W, seat: u32) -> Result<W:
     ensures objects { OnErr result (KeepsObjects (W.told world.old) (W.told world.new)) }
     ensures why { IfErr result (LendsNothing (W.told world.old).faults.dice
         (W.told world.new).faults.dice (file_faults (W.told world.new))) }
+    ensures once { (W.told world.new).faults.dice
+        ≡ counted (tells_fault is_fault result) (W.told world.old).faults.dice }
+    ensures kind { (W.told world.new).faults
+        ≡ record (W.told world.old).faults { dice = (W.told world.new).faults.dice } }
     ensures asked { AskedFor (W.told world.old).asked (W.told world.new).asked
         (WorldCall.RandomSource seat) result }
     ensures files { KeepsFiles (W.told world.old) (W.told world.new) }
@@ -153,6 +165,10 @@ pub fn open_link<W: World>(
     ensures objects { OnErr result (KeepsObjects (W.told world.old) (W.told world.new)) }
     ensures why { IfErr result (LendsNothing (W.told world.old).faults.links
         (W.told world.new).faults.links (file_faults (W.told world.new))) }
+    ensures once { (W.told world.new).faults.links
+        ≡ counted (tells_fault is_fault result) (W.told world.old).faults.links }
+    ensures kind { (W.told world.new).faults
+        ≡ record (W.told world.old).faults { links = (W.told world.new).faults.links } }
     ensures asked { AskedFor (W.told world.old).asked (W.told world.new).asked
         (WorldCall.Link seat plugin.now program.now) result }
     ensures files { KeepsFiles (W.told world.old) (W.told world.new) }

@@ -1,5 +1,6 @@
 //! The phases over tapes and the stores that they hold.
-ghost use Rattle.std.specs.Prelude.{◌≡◌, ◌≢◌, ◌<◌, ◌≤◌, List, ℕ, Ok, Err, IfOk, IfErr, OnErr, IsSome, false, length};
+ghost use Rattle.std.specs.Prelude.{◌≡◌, ◌≢◌, ◌<◌, ◌≤◌, List, ℕ, Ok, Err, IfOk, IfErr, OnErr, IsSome, MatchResult, false, length};
+ghost use Rattle.kr_base.specs.Faults.{counted, tells_fault};
 ghost use Rattle.kr_base.specs.Limits.{store_limit, value_limit};
 ghost use Rattle.kr_base.specs.Rules.{IsPath, IsResource};
 ghost use Rattle.kr_store.specs.Rows.{check_in, delete_of, live, put_of};
@@ -8,6 +9,7 @@ ghost use Rattle.kr_kms.specs.Outside.{KeepsFiles, KeepsObjects};
 ghost use Rattle.kr_kms.specs.declared.world.WorldCall.{WorldCall};
 ghost use Rattle.kr_cmd_steps.specs.Environment.{Environment};
 ghost use Rattle.kr_cmd_steps.specs.Phases.{adding, stored_on};
+ghost use Rattle.kr_cmd_steps.specs.inner.Counting.{is_fault};
 ghost use Rattle.kr_cmd_steps.specs.inner.Lent.{with_lent_tape};
 ghost use Rattle.kr_cmd_steps.specs.inner.Phases.{Does, AskedFor};
 ghost use Rattle.kr_cmd_steps.specs.inner.Tapes.{HasOneMore, IsLoaded, IsWriteStop, LentTape, ReturnedTape, ReturnsRead, ReturnsSettled, NoTape, grown_by, load_stop, stored_of};
@@ -28,8 +30,13 @@ pub fn open_tape<W: World>(
 ) -> Result<W::Tap, Stop>
     ensures lent { IfOk result (λ tape. LentTape name.now access (W.told world.old)
         (W.told world.new) (W.Tap.told tape) (W.Tap.count tape)) }
+    ensures cuts { IfOk result (λ tape. W.Tap.loose tape ≡ false) }
     ensures objects { OnErr result (KeepsObjects (W.told world.old) (W.told world.new)) }
     ensures why { IfErr result (NoTape (W.told world.old) (W.told world.new) name.now access) }
+    ensures once { (W.told world.new).faults.tapes
+        ≡ counted (tells_fault is_fault result) (W.told world.old).faults.tapes }
+    ensures kind { (W.told world.new).faults
+        ≡ record (W.told world.old).faults { tapes = (W.told world.new).faults.tapes } }
     ensures asked { AskedFor (W.told world.old).asked (W.told world.new).asked
         (WorldCall.Tape name.now access) result }
     ensures files { KeepsFiles (W.told world.old) (W.told world.new) }
@@ -114,6 +121,7 @@ pub fn settle_tape<W: World, A: Drop>(
 
 /// Loads the store of a tape. A tape that is refused comes back.
 pub fn load_store<T: Tape>(alloc: Global, tape: T, object: Object) -> Result<Store<T>, (Stop, T)>
+    requires cuts { T.loose tape ≡ false }
     ensures ok { IfOk result (λ store. (name : List ℕ) (a : Environment)
         → Does (stored_on object name)
         (with_lent_tape name (T.told tape) (T.count tape) a)
@@ -122,6 +130,8 @@ pub fn load_store<T: Tape>(alloc: Global, tape: T, object: Object) -> Result<Sto
         → Does (stored_on object name)
         (with_lent_tape name (T.told tape) (T.count tape) a)
         (with_lent_tape name (T.told refused.1) (T.count refused.1) a) (Err refused.0)) }
+    ensures once { MatchResult result (λ store. store.count ≡ T.count tape)
+        (λ refused. T.count refused.1 ≡ counted (is_fault refused.0) (T.count tape)) }
     ensures limit { IfOk result (λ store. (store.limit ≡ store_limit) × (store.torn ≡ false)) }
     ensures loaded { IfOk result (IsLoaded (T.told tape) (T.count tape)) }
 {
@@ -153,6 +163,7 @@ pub fn add_put<T: Tape>(
         (with_lent_tape name store.old.told store.old.count a)
         (with_lent_tape name store.new.told store.new.count a)
         (grown_by row (stored_of store.old) result) }
+    ensures once { store.new.count ≡ counted (tells_fault is_fault result) store.old.count }
     ensures grown { IfOk result (λ done. HasOneMore
         (put_of path.now resource.now stored (check_in store.old.format check))
         store.old store.new) }
@@ -177,6 +188,7 @@ pub fn add_delete<T: Tape>(store: &mut Store<T>, object: Object, path: &str) -> 
         (with_lent_tape name store.old.told store.old.count a)
         (with_lent_tape name store.new.told store.new.count a)
         (grown_by row (stored_of store.old) result) }
+    ensures once { store.new.count ≡ counted (tells_fault is_fault result) store.old.count }
     ensures grown { IfOk result (λ done. HasOneMore (delete_of path.now) store.old store.new) }
     ensures kept { OnErr result (store.new.rows ≡ store.old.rows) }
 {

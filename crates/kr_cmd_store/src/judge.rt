@@ -1,5 +1,5 @@
 //! `judge`: store, the replicas' configurations, the new one, the verdict on it.
-ghost use Rattle.std.specs.Prelude.{◌≡◌, ◌≤◌, length};
+ghost use Rattle.std.specs.Prelude.{◌≡◌, ◌≤◌, length, false};
 ghost use Rattle.kr_config.specs.Kept.{rows_of};
 ghost use Rattle.kr_opening.specs.Replicas.{IsFirstIn, rows_in};
 ghost use Rattle.kr_cmd_steps.specs.Environment.{Environment, with_world};
@@ -47,7 +47,8 @@ fn judge_on_tape<W: World>(
     tape: W::Tap,
     world: &mut W,
 ) -> (Result<Outcome, Stop>, W::Tap)
-    requires { HasReplicas words.now.options }
+    requires replicas { HasReplicas words.now.options }
+    requires cuts { W.Tap.loose tape ≡ false }
     ensures made { (name : Name) (a : Environment) → Does (judging_on name words.now.options)
         (with_lent_tape name (W.Tap.told tape) (W.Tap.count tape)
         (with_world (W.told world.old) a))

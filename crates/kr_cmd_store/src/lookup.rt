@@ -1,6 +1,6 @@
 //! `get`: configuration, programs of its plugins, store, the path's row, random source, links,
 //! publish, unseal.
-ghost use Rattle.std.specs.Prelude.{◌≡◌, ◌≤◌, ◌⊎◌, [], List, ℕ, IfOk, length};
+ghost use Rattle.std.specs.Prelude.{◌≡◌, ◌≤◌, ◌⊎◌, [], List, ℕ, IfOk, length, false};
 ghost use Rattle.kr_base.specs.Limits.{path_limit, value_limit};
 ghost use Rattle.kr_cmd_steps.specs.Environment.{Environment, with_exchanges, with_world};
 ghost use Rattle.kr_cmd_steps.specs.Commands.{getting};
@@ -74,6 +74,7 @@ fn find_row<W: World>(
 
 /// The live row of the path in the store on a tape, which comes back.
 fn find_on_tape<T: Tape>(alloc: Global, tape: T, path: &Text) -> (Result<Shared<Row>, Stop>, T)
+    requires cuts { T.loose tape ≡ false }
     ensures does { (name : List ℕ) (a : Environment) → Does (row_on name path.now)
         (with_lent_tape name (T.told tape) (T.count tape) a)
         (with_lent_tape name (T.told result.1) (T.count result.1) a) result.0 }

@@ -61,6 +61,7 @@ fn migrate_tape<W: World>(
     world: &mut W,
     tape: W::Tap,
 ) -> (Result<Outcome, Stop>, W::Tap)
+    requires cuts { W.Tap.loose tape ≡ false }
     ensures made { (name : List ℕ) (a : Environment) → same_name name to.now ≡ false → Does
         (and_then (source_on name) (migrating_into to.now (rows_of settings.now.entries.0)))
         (with_lent_tape name (W.Tap.told tape) (W.Tap.count tape) (with_world (W.told world.old) a))
@@ -80,6 +81,7 @@ fn migrate_tape<W: World>(
 
 /// Loads a store that doesn't have the second format yet; one without bytes has none.
 fn load_source<T: Tape>(alloc: Global, tape: T) -> Result<Store<T>, (Stop, T)>
+    requires cuts { T.loose tape ≡ false }
     ensures ok { IfOk result (λ store. (name : List ℕ) (a : Environment) → Does (source_on name)
         (with_lent_tape name (T.told tape) (T.count tape) a)
         (with_lent_tape name store.told store.count a) (Ok (stored_of store))) }
@@ -140,6 +142,7 @@ fn copy_onto_tape<S: Tape, T: Tape>(
     source: &Store<S>,
     tape: T,
 ) -> (Result<Outcome, Stop>, T)
+    requires cuts { T.loose tape ≡ false }
     ensures { (name : List ℕ) (a : Environment) → Does (and_then (target_on name)
         (copied_into name (rows_of settings.now.entries.0) (stored_of source.now)))
         (with_lent_tape name (T.told tape) (T.count tape) a)
@@ -159,6 +162,7 @@ fn copy_onto_tape<S: Tape, T: Tape>(
 
 /// Loads a store that has no bytes yet.
 fn load_target<T: Tape>(alloc: Global, mut tape: T) -> Result<Store<T>, (Stop, T)>
+    requires cuts { T.loose tape ≡ false }
     ensures ok { IfOk result (λ store. (name : List ℕ) (a : Environment) → Does (target_on name)
         (with_lent_tape name (T.told tape) (T.count tape) a)
         (with_lent_tape name store.told store.count a) (Ok (stored_of store))) }
@@ -182,6 +186,7 @@ fn load_target<T: Tape>(alloc: Global, mut tape: T) -> Result<Store<T>, (Stop, T
 
 /// Loads a store of which the tape said that it has no bytes.
 fn load_empty<T: Tape>(alloc: Global, tape: T) -> Result<Store<T>, (Stop, T)>
+    requires cuts { T.loose tape ≡ false }
     ensures ok { IfOk result (λ store. (name : List ℕ) (a : Environment) → Does (target_read name)
         (with_lent_tape name (T.told tape) (T.count tape) a)
         (with_lent_tape name store.told store.count a) (Ok (stored_of store))) }

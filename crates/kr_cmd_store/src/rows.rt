@@ -1,5 +1,5 @@
 //! `list`: store, its live rows.
-ghost use Rattle.std.specs.Prelude.{◌≡◌, List, ℕ};
+ghost use Rattle.std.specs.Prelude.{◌≡◌, List, ℕ, false};
 ghost use Rattle.kr_cmd_steps.specs.Environment.{Environment, with_world};
 ghost use Rattle.kr_cmd_steps.specs.Commands.{steps};
 ghost use Rattle.kr_cmd_steps.specs.StoreSteps.{listing_on};
@@ -30,6 +30,7 @@ pub fn list<W: World>(alloc: Global, name: &str, world: &mut W) -> Result<Outcom
 
 /// The text of the live rows of the store on a tape, which comes back.
 fn list_on_tape<T: Tape>(alloc: Global, tape: T) -> (Result<Outcome, Stop>, T)
+    requires cuts { T.loose tape ≡ false }
     ensures { (name : List ℕ) (a : Environment) → Does (listing_on name)
         (with_lent_tape name (T.told tape) (T.count tape) a)
         (with_lent_tape name (T.told result.1) (T.count result.1) a) result.0 }

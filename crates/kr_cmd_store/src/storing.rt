@@ -1,6 +1,6 @@
 //! `put`: configuration, programs of its plugins, input, store, random source, links, publish,
 //! seal, the row.
-ghost use Rattle.std.specs.Prelude.{◌≡◌, ◌≤◌, ◌++◌, [], ℕ, List, map, IfOk, codes, decimal, length};
+ghost use Rattle.std.specs.Prelude.{◌≡◌, ◌≤◌, ◌++◌, [], ℕ, List, map, IfOk, codes, decimal, length, false};
 ghost use Rattle.kr_base.specs.Rules.{IsPath, IsResource};
 ghost use Rattle.kr_base.specs.Limits.{data_limit, store_limit};
 ghost use Rattle.kr_config.specs.Kept.{rows_of};
@@ -114,6 +114,7 @@ fn put_on_tape<W: World>(
     requires path { IsPath words.now.path }
     requires resource { IsResource words.now.resource }
     requires fits { length bytes ≤ data_limit }
+    requires cuts { W.Tap.loose tape ≡ false }
     ensures made { Heard W.Link.link W.lent W.took W.Link.step 0
         (W.told world.old) (W.told world.new) [] [] (λ es. (name : List ℕ) (a : Environment)
         → Does

@@ -1,6 +1,6 @@
 //! `verify`: configuration, programs of its plugins, store, its live rows, random source, links,
 //! publish, unseal each row.
-ghost use Rattle.std.specs.Prelude.{◌≡◌, [], All, IfOk, None};
+ghost use Rattle.std.specs.Prelude.{◌≡◌, [], All, IfOk, None, false};
 ghost use Rattle.std.specs.List.{last_or};
 ghost use Rattle.kr_cmd_steps.specs.Environment.{Environment, with_exchanges, with_world};
 ghost use Rattle.kr_cmd_steps.specs.StoreSteps.{live_on};
@@ -58,6 +58,7 @@ fn find_rows<W: World>(alloc: Global, world: &mut W, name: &str) -> Result<List<
 
 /// The live rows of the store on a tape, which comes back.
 fn live_rows_on_tape<T: Tape>(alloc: Global, tape: T) -> (Result<List<Shared<Row>>, Stop>, T)
+    requires cuts { T.loose tape ≡ false }
     ensures does { (name : Name) (a : Environment) → Does (live_on name)
         (with_lent_tape name (T.told tape) (T.count tape) a)
         (with_lent_tape name (T.told result.1) (T.count result.1) a) (rows_listed result.0) }

@@ -14,7 +14,7 @@ use Rattle.kr_kms_wire.specs.declared.requests.Request.{Request}
 use Rattle.kr_base.specs.Faults.{Rose}
 use Rattle.kr_kms_wire.specs.declared.replies.ReplyNo.{ReplyNo}
 use Rattle.kr_kms_wire.specs.declared.replies.ReplyNo.TheVariants.{Error}
-use Rattle.kr_edge.specs.Lines.{ExchangeEnds, Exchanged, IsCutOff, TakesLine, TakesNoLine, broken_off}
+use Rattle.kr_edge.specs.Lines.{ExchangeEnds, Exchanged, IsCutOff, TakesLine, GivesNoLine, broken_off}
 use Rattle.kr_edge.specs.Plugins.{AnswersRequest}
 
 -- a question of which nothing was written, and one that was written whole
@@ -40,32 +40,36 @@ cut_before old question is = record {
 
 pub cut_asking : (old new : ExchangeEnds) (question : List ℕ) → old.broken ≡ false
     → AppendsFront old.written new.written question → Rose old.write_faults new.write_faults
+    → new.write_faults ≡ next_number old.write_faults → new.read_faults ≡ old.read_faults
     → new.broken ≡ true → IsCutOff old new question
-cut_asking old new question before front rose is = record {
+cut_asking old new question before front rose once calm is = record {
   asked = front;
-  cause = inr (before, inl rose);
+  cause = inr (before, inl (rose, once, calm));
   broken = is;
 }
 
 -- the same of an answer that hands on why it wasn't written
 pub not_asked : {T E : Type 0} (result : Result T E) (old new : ExchangeEnds) (question : List ℕ)
     → old.broken ≡ false → AppendsFront old.written new.written question
-    → Rose old.write_faults new.write_faults → new.broken ≡ true
+    → Rose old.write_faults new.write_faults → new.write_faults ≡ next_number old.write_faults
+    → new.read_faults ≡ old.read_faults → new.broken ≡ true
     → OnErr result (IsCutOff old new question)
-not_asked (Ok x) old new question before front rose is = tt
-not_asked (Err why) old new question before front rose is =
-    cut_asking old new question before front rose is
+not_asked (Ok x) old new question before front rose once calm is = tt
+not_asked (Err why) old new question before front rose once calm is =
+    cut_asking old new question before front rose once calm is
 
 pub cut_reading : (old new : ExchangeEnds) (question : List ℕ) (room : ℕ) → old.broken ≡ false
     → Appends old.written new.written question → room ≡ 131073
-    → Rose old.read_faults new.read_faults ⊎ TakesNoLine room old.left new.left
-    → new.broken ≡ true → IsCutOff old new question
-cut_reading old new question room before whole size none is = record {
+    → GivesNoLine room old.left new.left old.read_faults new.read_faults
+    → new.write_faults ≡ old.write_faults → new.broken ≡ true → IsCutOff old new question
+cut_reading old new question room before whole size none calm is = record {
   asked = asked-all old.written new.written question whole;
   cause = inr (
     before,
-    inr (subst (λ n. Rose old.read_faults new.read_faults
-        ⊎ TakesNoLine n old.left new.left) size none),
+    inr (
+      subst (λ n. GivesNoLine n old.left new.left old.read_faults new.read_faults) size none,
+      calm,
+    ),
   );
   broken = is;
 }
@@ -73,21 +77,24 @@ cut_reading old new question room before whole size none is = record {
 -- the same of an answer that hands on why nothing was read
 pub not_read : {T E : Type 0} (result : Result T E) (old new : ExchangeEnds) (question : List ℕ)
     (room : ℕ) → old.broken ≡ false → Appends old.written new.written question → room ≡ 131073
-    → Rose old.read_faults new.read_faults ⊎ TakesNoLine room old.left new.left
-    → new.broken ≡ true → OnErr result (IsCutOff old new question)
-not_read (Ok x) old new question room before whole size none is = tt
-not_read (Err why) old new question room before whole size none is =
-    cut_reading old new question room before whole size none is
+    → GivesNoLine room old.left new.left old.read_faults new.read_faults
+    → new.write_faults ≡ old.write_faults → new.broken ≡ true
+    → OnErr result (IsCutOff old new question)
+not_read (Ok x) old new question room before whole size none calm is = tt
+not_read (Err why) old new question room before whole size none calm is =
+    cut_reading old new question room before whole size none calm is
 
 pub exchanged : (old new : ExchangeEnds) (question line : List ℕ) (size : ℕ) → old.broken ≡ false
     → Appends old.written new.written question → TakesLine old.left new.left (take size line)
-    → size ≤ 131072 → new.broken ≡ false → Exchanged old new question (take size line)
-exchanged old new question line size before whole taken short is = record {
+    → size ≤ 131072 → new.broken ≡ false → new.write_faults ≡ old.write_faults
+    → new.read_faults ≡ old.read_faults → Exchanged old new question (take size line)
+exchanged old new question line size before whole taken short is written read = record {
   before = before;
   asked = whole;
   answered = taken;
   short = omega (arith, short, length-take size line);
   whole = is;
+  calm = (written, read);
 }
 
 -- the question was this text

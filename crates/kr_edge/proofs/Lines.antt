@@ -74,7 +74,7 @@ pub record Filled (before now : Option (List ℕ)) (line : List ℕ) (filled siz
   pub same : length line ≡ size
   pub taken : Consumes before now (take filled line)
   pub inside : HasNoLF (take filled line)
-  pub later : faults ≤ count
+  pub calm : count ≡ faults
 
 -- the first bytes, and the next n of those behind them
 pub next_bytes : (line into : List ℕ) (filled k n : ℕ) → filled ≤ length line → n ≤ length into
@@ -97,9 +97,9 @@ mid_long line into filled h e = same_len_mid filled (length line - filled) line 
 pub filled_more : {a b : Option (List ℕ)} {line : List ℕ} {filled size faults count : ℕ}
     (c : Option (List ℕ)) (into : List ℕ) (n after : ℕ) → Filled a b line filled size faults count
     → Consumes b c (take n into) → n ≤ length into → length into ≡ length line - filled
-    → position (λ byte. byte == 10) (take n into) ≡ None → count ≤ after
+    → position (λ byte. byte == 10) (take n into) ≡ None → after ≡ count
     → Filled a c (put_mid filled (length line - filled) line into) (filled + n) size faults after
-filled_more {a} {b} {line} {filled} {size} c into n after f p m long none later =
+filled_more {a} {b} {line} {filled} {size} c into n after f p m long none calm =
     let next = next_bytes line into filled (length line - filled) n f.within m in
     let whole = mid_long line into filled f.within long in
     record {
@@ -109,7 +109,7 @@ filled_more {a} {b} {line} {filled} {size} c into n after f p m long none later 
       inside = subst HasNoLF (sym next)
           (All-append (λ byte. byte ≢ 10) (take filled line) (take n into) f.inside
           (without_end (take n into) none));
-      later = omega (arith, f.later, later);
+      calm = calm ∙ f.calm;
     }
 
 -- the place of an LF is within the buffer
@@ -150,7 +150,7 @@ filled_none a line size count same = record {
   same = same;
   taken = Consumes-nil a;
   inside = λ k d lt. absurd (omega (arith, lt));
-  later = omega arith;
+  calm = refl;
 }
 
 -- an end in place of an LF

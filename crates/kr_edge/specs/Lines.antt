@@ -2,6 +2,7 @@
 use Rattle.std.specs.Prelude.{◌≡◌, ◌≢◌, ℕ, ◌<◌, ◌≤◌, List, [], ◌∷◌, ◌++◌, length, Bool, true, false, Option, All, ◌⊎◌}
 use Rattle.std.specs.Io.KnownBytes.{Appends, Consumes, IsAtEnd}
 use Rattle.kr_base.specs.Faults.{Rose}
+use Rattle.kr_base.specs.Numbering.{next_number}
 use Rattle.kr_base.specs.Streams.{AppendsFront}
 use Rattle.kr_edge.specs.declared.exchange.Exchange.{Exchange}
 
@@ -44,19 +45,33 @@ ends_of contents remaining exchange = record {
   broken = exchange.broken;
 }
 
+-- neither end failed
+abbrev pub NoneFails : ExchangeEnds → ExchangeEnds → Type 0
+NoneFails old new =
+    (new.write_faults ≡ old.write_faults) × (new.read_faults ≡ old.read_faults)
+
 -- no exchange was cut off or broken off before; the question was written, once, and a line of at
--- most 131,072 bytes was taken as its answer
+-- most 131,072 bytes was taken as its answer. Neither end failed, so that no fault was survived
 pub record Exchanged (old new : ExchangeEnds) (question line : List ℕ) : Type 0 where
   pub before : old.broken ≡ false
   pub asked : Appends old.written new.written question
   pub answered : TakesLine old.left new.left line
   pub short : length line ≤ 131072
   pub whole : new.broken ≡ false
+  pub calm : NoneFails old new
 
--- an end failed, or no line of at most 131,072 bytes came
+-- a source failed, once; or it didn't, and what it gave is no line
+abbrev pub GivesNoLine : ℕ → (old new : Option (List ℕ)) → (before now : ℕ) → Type 0
+GivesNoLine most old new before now = (Rose before now × (now ≡ next_number before))
+    ⊎ (TakesNoLine most old new × (now ≡ before))
+
+-- one end failed, once, and not the other; or neither did, and no line of at most 131,072 bytes came
 abbrev pub FailsToAnswer : ExchangeEnds → ExchangeEnds → Type 0
-FailsToAnswer old new = Rose old.write_faults new.write_faults
-    ⊎ Rose old.read_faults new.read_faults ⊎ TakesNoLine 131073 old.left new.left
+FailsToAnswer old new =
+    (Rose old.write_faults new.write_faults × (new.write_faults ≡ next_number old.write_faults)
+    × (new.read_faults ≡ old.read_faults))
+    ⊎ (GivesNoLine 131073 old.left new.left old.read_faults new.read_faults
+    × (new.write_faults ≡ old.write_faults))
 
 -- one was cut off or broken off before, so nothing was asked; or this one fails
 abbrev pub CutsOff : ExchangeEnds → ExchangeEnds → Type 0

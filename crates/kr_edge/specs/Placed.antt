@@ -83,6 +83,12 @@ HasFailed (Some old) None = ⊥
 HasFailed (Some old) (Some new) = (old.failed < new.failed)
     ⊎ (old.interrupted + (2 ^ 64 - 1) ≤ new.interrupted)
 
+-- no call failed; those that were interrupted did nothing, and are no fault
+abbrev pub NoneFailed : Option Stops → Option Stops → Type 0
+NoneFailed None new = ⊤
+NoneFailed (Some old) None = ⊥
+NoneFailed (Some old) (Some new) = new.failed ≡ old.failed
+
 -- so many bytes from the place on would end behind the greatest number
 abbrev pub IsBeyond : (at count : ℕ) → Type 0
 IsBeyond at count = 2 ^ 64 ≤ at + count

@@ -1,5 +1,5 @@
 -- By which calls of the system a store is opened and a program started, and why not.
-use Rattle.std.specs.Prelude.{◌≡◌, ℕ, ◌⊎◌, Bool, true, false, List, [], ◌∷◌, Option, None, Some, Result, Ok, Err, codes}
+use Rattle.std.specs.Prelude.{◌≡◌, ◌≢◌, ℕ, ◌⊎◌, Bool, true, false, List, [], ◌∷◌, Option, None, Some, Result, Ok, Err, codes}
 use Rattle.std.specs.Fs.{new_options, with_read, with_write, with_create_new}
 use Rattle.std.specs.Path.{path_parent}
 use Rattle.std.specs.declared.fs.options.OpenOptions.{OpenOptions}
@@ -13,7 +13,7 @@ use Rattle.kr_edge.specs.SystemCalls.{has_ends, noted, with_note}
 use Rattle.kr_edge.specs.declared.system.ChildStream.TheVariants.{Piped, Shared}
 use Rattle.kr_edge.specs.declared.system.ChildStreams.{ChildStreams}
 use Rattle.kr_edge.specs.declared.system.Found.{Found}
-use Rattle.kr_edge.specs.declared.system.Found.TheVariants.{Absent, Empty, Filled, Other, Failed}
+use Rattle.kr_edge.specs.declared.system.Found.TheVariants.{Absent, Empty, Filled, Device, Other, Failed}
 use Rattle.kr_edge.specs.declared.system.OpenNo.{OpenNo}
 use Rattle.kr_edge.specs.declared.system.OpenNo.TheVariants as why
 use Rattle.kr_edge.specs.declared.system.ProcessStartNo.{ProcessStartNo}
@@ -53,7 +53,8 @@ open_options access found = None
 abbrev pub ChoosesOptions : Access → Found → Result OpenOptions OpenNo → Type 0
 ChoosesOptions access found (Ok options) = open_options access found ≡ Some options
 ChoosesOptions access found (Err why.Absent) = (found ≡ Absent) × (makes access ≡ false)
-ChoosesOptions access found (Err why.Failed) = (found ≡ Other) ⊎ (found ≡ Failed)
+ChoosesOptions access found (Err why.Failed) =
+    (found ≡ Device) ⊎ (found ≡ Other) ⊎ (found ≡ Failed)
 
 -- the file of the name was looked at behind its lock, which readers share and a writer has alone;
 -- or it is locked already
@@ -82,10 +83,11 @@ OpensBy name access calls = (found at : Found) × (options : OpenOptions) × (la
 
 -- what the last call answered is a reason to open no store
 abbrev pub ForbidsOpening : SystemCall → Type 0
-ForbidsOpening (Look name found) = (found ≡ Other) ⊎ (found ≡ Failed)
+ForbidsOpening (Look name found) = (found ≡ Device) ⊎ (found ≡ Other) ⊎ (found ≡ Failed)
 ForbidsOpening (Open name options mode opened) = opened ≡ false
 ForbidsOpening (Lock name shared locked) = locked ≡ false
-ForbidsOpening (LookAt name found) = (found ≡ Absent) ⊎ (found ≡ Other) ⊎ (found ≡ Failed)
+ForbidsOpening (LookAt name found) =
+    (found ≡ Absent) ⊎ (found ≡ Device) ⊎ (found ≡ Other) ⊎ (found ≡ Failed)
 ForbidsOpening (SyncFolder folder synced) = synced ≡ false
 ForbidsOpening call = ⊥
 
@@ -98,6 +100,16 @@ OpensStore name access old new (Err why.Absent) =
 OpensStore name access old new (Err why.Failed) =
     (calls : List SystemCall) × (last : SystemCall) × ForbidsOpening last
     × (new ≡ with_note last (noted calls old))
+
+-- a device was opened to be read, once its name was seen to lead to one; or why not: it leads to
+-- something else, or it wasn't opened
+abbrev pub OpensDevice : {D : Type 0} → (name : List ℕ)
+    → Option (List SystemCall) → Option (List SystemCall) → Option D → Type 0
+OpensDevice name old new (Some device) =
+    new ≡ noted (Look name Device ∷ Read name None ∷ []) old
+OpensDevice name old new None =
+    ((found : Found) × (found ≢ Device) × (new ≡ with_note (Look name found) old))
+    ⊎ ((answer : OpenNo) × (new ≡ noted (Look name Device ∷ Read name (Some answer) ∷ []) old))
 
 -- a plugin's input and output are pipes, and its errors are this process' own
 abbrev pub plugin_streams : ChildStreams
@@ -150,14 +162,14 @@ LoadsBy name FailsToRead old new (Err file.Failed) =
 LoadsBy name FailsToRead old new (Err file.NoMemory) = new ≡ with_note (Read name None) old
 
 -- the device of random bytes was opened, and nothing else; or there is no source left to lend, so
--- nothing was asked; or the device wasn't opened
+-- nothing was asked; or no device stands there, or it wasn't opened
 abbrev pub DrawsFrom : {D : Type 0} → (IsLent : Type 0)
     → Option (List SystemCall) → Option (List SystemCall) → Result D FileNo → Type 0
-DrawsFrom IsLent old new (Ok dice) = new ≡ with_note (Read (codes "/dev/urandom") None) old
+DrawsFrom IsLent old new (Ok dice) = OpensDevice (codes "/dev/urandom") old new (Some dice)
 DrawsFrom IsLent old new (Err file.Absent) = ⊥
 DrawsFrom IsLent old new (Err file.TooLong) = ⊥
-DrawsFrom IsLent old new (Err file.Failed) = (IsLent × (new ≡ old))
-    ⊎ ((answer : OpenNo) × (new ≡ with_note (Read (codes "/dev/urandom") (Some answer)) old))
+DrawsFrom {D} IsLent old new (Err file.Failed) = (IsLent × (new ≡ old))
+    ⊎ OpensDevice {D = D} (codes "/dev/urandom") old new None
 DrawsFrom IsLent old new (Err file.NoMemory) = ⊥
 
 -- the program of a link was started; or it wasn't, or has no pipe, or memory lacked

@@ -2,8 +2,8 @@
 ghost use Rattle.std.specs.Prelude.{◌≡◌, ◌<◌, ◌≤◌, ◌==◌, true, false, length, take, position};
 ghost use Rattle.std.specs.Prelude.{IfOk, IfSome, IsErr, OnErr, ◌⊎◌};
 ghost use Rattle.std.specs.Io.KnownBytes.{Consumes, IsAtEnd};
-ghost use Rattle.kr_base.specs.Faults.{Rose, IsCounted};
-ghost use Rattle.kr_edge.specs.Lines.{TakesLine, TakesNoLine, Exchanged, IsCutOff};
+ghost use Rattle.kr_base.specs.Faults.{IsCounted};
+ghost use Rattle.kr_edge.specs.Lines.{TakesLine, GivesNoLine, Exchanged, IsCutOff};
 ghost use Rattle.kr_edge.specs.Wiped.{IsWiped};
 ghost use Rattle.kr_edge.specs.Lines.{ends_of, broken_off};
 
@@ -89,9 +89,10 @@ impl<W: Write, R: Read> Exchange<W, R> {
 /// Reads one line to the front of the buffer, and answers how many bytes stand before its LF.
 fn read_line<S: Source>(source: &mut S, line: &mut [u8]) -> Result<usize, Failed>
     ensures ok { IfOk result (λ size. (size < length line.new)
-        × TakesLine (S.left source.old) (S.left source.new) (take size line.new)) }
-    ensures err { OnErr result (Rose (S.count source.old) (S.count source.new)
-        ⊎ TakesNoLine (length line.new) (S.left source.old) (S.left source.new)) }
+        × TakesLine (S.left source.old) (S.left source.new) (take size line.new)
+        × (S.count source.new ≡ S.count source.old)) }
+    ensures err { OnErr result (GivesNoLine (length line.new) (S.left source.old)
+        (S.left source.new) (S.count source.old) (S.count source.new)) }
 {
     let mut filled = 0;
     while filled < line.len() {

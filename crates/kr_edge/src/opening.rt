@@ -1,6 +1,7 @@
-//! How stores are opened, and programs started.
-ghost use Rattle.std.specs.Prelude.{◌≡◌};
-ghost use Rattle.kr_edge.specs.Stores.{ChoosesOptions, LooksLocked, OpensStore, StartsProgram};
+//! How stores and devices are opened, and programs started.
+ghost use Rattle.std.specs.Prelude.{◌≡◌, IfSome};
+ghost use Rattle.kr_edge.specs.Opened.{ReaderHolds};
+ghost use Rattle.kr_edge.specs.Stores.{ChoosesOptions, LooksLocked, OpensDevice, OpensStore, StartsProgram};
 ghost use Rattle.kr_edge.specs.Stores.{parent_folder, only_reads};
 
 use crate::placed::DiskFile;
@@ -46,7 +47,7 @@ pub fn open_store<S: System>(system: &mut S, name: Text, access: Access) -> Resu
             }
             Ok(file)
         }
-        Found::Absent | Found::Other | Found::Failed => {
+        Found::Absent | Found::Device | Found::Other | Found::Failed => {
             drop(file);
             Err(OpenNo::Failed)
         }
@@ -94,7 +95,24 @@ fn open_options(access: Access, found: Found) -> Result<OpenOptions, OpenNo>
             options.create_new(true);
             Ok(options)
         }
-        Found::Other | Found::Failed => Err(OpenNo::Failed),
+        Found::Device | Found::Other | Found::Failed => Err(OpenNo::Failed),
+    }
+}
+
+/// Opens the device of that name to be read. What the name leads to is looked at first: in a changed
+/// root a plain file may stand there, which would give each reader the same bytes.
+pub fn open_device<S: System>(system: &mut S, name: &str) -> Option<S::File>
+    ensures bytes { IfSome result (λ device.
+        ReaderHolds (S.told system.old name.now) (S.File.left device)) }
+    ensures calls { OpensDevice name.now (S.calls system.old) (S.calls system.new) result }
+    ensures same { S.told system.new ≡ S.told system.old }
+{
+    match system.look(name) {
+        Found::Device => match system.read(name) {
+            Ok(device) => Some(device),
+            Err(_) => None,
+        },
+        Found::Absent | Found::Empty | Found::Filled | Found::Other | Found::Failed => None,
     }
 }
 

@@ -1,7 +1,7 @@
 //! The world of the system: its files, its random device for each seat, and programs as plugins.
 ghost use Rattle.std.specs.Prelude.{◌≡◌, ◌<◌, ◌≤◌, ◌==◌, ◌&&◌, ◌-◌, ◌^◌, ◌⊎◌, [], length, position};
 ghost use Rattle.std.specs.Prelude.{⊤, replicate, codes, None};
-ghost use Rattle.std.specs.Prelude.{OnOk, OnErr, IfOk, IfErr, IfSome, IsErrOf, MatchResult, is_some, true};
+ghost use Rattle.std.specs.Prelude.{OnOk, OnErr, IfOk, IfErr, IfSome, IsErrOf, MatchResult, is_some, true, false};
 ghost use Rattle.std.specs.Io.KnownBytes.{Consumes, Keeps};
 ghost use Rattle.kr_base.specs.Faults.{Rose, IsCounted, counted};
 ghost use Rattle.std.specs.Str.{bytes_eq};
@@ -16,7 +16,7 @@ ghost use Rattle.kr_edge.specs.Stores.{DrawsFrom, LendsLink, LendsStore, LoadsBy
 
 use crate::answer_room::AnswerRoom;
 use crate::child_link::{ChildEnds, ChildLink, take_ends};
-use crate::opening::{open_store, start};
+use crate::opening::{open_device, open_store, start};
 use crate::placed::DiskFile;
 use crate::system::{OpenNo, ProcessStartNo, System};
 use crate::tape::FileTape;
@@ -196,6 +196,7 @@ where
         ensures tape { IfOk result
             (λ tape. IsTape ((seen S.told self.old).tapes.told name.now) (makes access) None) }
         ensures alone { IfOk result (λ tape. (seen S.told self.old).tapes.out name.now ≡ 0) }
+        ensures cuts { IfOk result (λ tape. false ≡ false) }
         ensures err { OnErr result
             ((seen S.told self.new).tapes ≡ (seen S.told self.old).tapes) }
         ensures refusals { IfErr result
@@ -257,7 +258,8 @@ where
         ensures device { IfOk result (λ dice.
             ReaderHolds (S.told self.old.system (codes "/dev/urandom"))
             (S.File.left dice.device)) }
-        // It was opened, and nothing else; it isn't where the seat has no source left.
+        // It was opened, once it was seen to be a device, and nothing else; it isn't where the seat
+        // has no source left.
         ensures calls { DrawsFrom ((64 ≤ seat)
             ⊎ ((seen S.told self.old).dice.out seat ≡ 2 ^ 64 - 1))
             (S.calls self.old.system) (S.calls self.new.system) result }
@@ -296,15 +298,15 @@ where
             self.faults.dice.rise();
             return Err(FileNo::Failed);
         }
-        match self.system.read(RANDOM_DEVICE) {
-            Ok(device) => {
+        match open_device(&mut self.system, RANDOM_DEVICE) {
+            Some(device) => {
                 self.dice_out[at] += 1;
                 Ok(DeviceDice {
                     device,
                     faults: FaultCount::from_count(self.dice_faults[at]),
                 })
             }
-            Err(_) => {
+            None => {
                 self.faults.dice.rise();
                 Err(FileNo::Failed)
             }

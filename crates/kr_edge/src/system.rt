@@ -57,7 +57,9 @@ pub enum Found {
     Empty,
     /// A plain file with bytes.
     Filled,
-    /// A folder, a device, or what else is no plain file.
+    /// A device that gives its bytes one by one, as that of random bytes does.
+    Device,
+    /// A folder, or what else is neither.
     Other,
     /// It can't be told.
     Failed,

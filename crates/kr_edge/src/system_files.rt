@@ -11,7 +11,7 @@ use crate::system_error::io_error_kind;
 use kr_base::Text;
 use std::fs::{File, Metadata, OpenFile, OpenOptions};
 use std::io::{self, ErrorKind};
-use std::os::unix::fs::OpenOptionsExt;
+use std::os::unix::fs::{FileTypeExt, OpenOptionsExt};
 use std::process::{Child, Command, Processes, Stdio, SystemProcess};
 use std::rt::Files;
 
@@ -151,7 +151,11 @@ fn found(asked: io::Result<Metadata>) -> Found
     match asked {
         Ok(metadata) => {
             if !metadata.is_file() {
-                Found::Other
+                if metadata.file_type().is_char_device() {
+                    Found::Device
+                } else {
+                    Found::Other
+                }
             } else if metadata.len() == 0 {
                 Found::Empty
             } else {

@@ -1,9 +1,9 @@
 //! Files that are read and written at any place, as tapes.
-ghost use Rattle.std.specs.Prelude.{◌≡◌, ◌≤◌, ◌⊎◌, length, true, Ok, IfOk, IfSome, IsErr, OnOk, OnErr};
+ghost use Rattle.std.specs.Prelude.{◌≡◌, ◌≤◌, ◌⊎◌, length, true, false, Ok, IfOk, IfSome, IsErr, OnOk, OnErr};
 ghost use Rattle.std.specs.Io.{ReadsAtMost, WritesAtMost};
 ghost use Rattle.kr_base.specs.Faults.{IsCounted};
 ghost use Rattle.kr_base.specs.Tapes.{ReadsAt, PutsAt, Cuts, KeepsFront};
-ghost use Rattle.kr_edge.specs.Placed.{HasFailed, IsBeyond, ReadsSome, Restores, WritesSome};
+ghost use Rattle.kr_edge.specs.Placed.{HasFailed, IsBeyond, NoneFailed, ReadsSome, Restores, WritesSome};
 ghost use Rattle.kr_edge.specs.Stores.{only_reads};
 ghost use Rattle.kr_edge.specs.inner.Stops.{WasInterrupted};
 
@@ -70,16 +70,21 @@ impl<F: PlacedFile> Tape for FileTape<F> {
 
     ghost settled = { λ tape. F.synced tape.file };
 
+    ghost loose = { λ tape. false };
+
     fn len(&mut self) -> Result<u64, Failed>
         // It stays for what it was asked for, and fails where the file does.
         ensures access { self.new.access ≡ self.old.access }
         ensures fault { OnErr result
             (HasFailed (F.stops self.old.file) (F.stops self.new.file)) }
+        // One that failed isn't made again.
+        ensures once { OnOk result (F.stops self.new.file ≡ F.stops self.old.file) }
 
         // As the trait says.
         ensures length { IfOk result
             (λ n. IfSome (F.told self.old.file) (λ bytes. n ≡ length bytes)) }
         ensures same { F.told self.new.file ≡ F.told self.old.file }
+        ensures cuts { false ≡ false }
         ensures cause { IsCounted self.old.faults self.new.faults result }
     {
         match self.file.len() {
@@ -97,11 +102,14 @@ impl<F: PlacedFile> Tape for FileTape<F> {
         ensures access { self.new.access ≡ self.old.access }
         ensures fault { OnErr result (IsBeyond at (length into.new)
             ⊎ HasFailed (F.stops self.old.file) (F.stops self.new.file)) }
+        // One that failed isn't made again; one that was interrupted read nothing, and is.
+        ensures once { OnOk result (NoneFailed (F.stops self.old.file) (F.stops self.new.file)) }
 
         // As the trait says.
         ensures bound { ReadsAtMost result into.new }
         ensures bytes { IfOk result (λ n. ReadsAt (F.told self.old.file) at n into.new) }
         ensures same { F.told self.new.file ≡ F.told self.old.file }
+        ensures cuts { false ≡ false }
         ensures cause { IsCounted self.old.faults self.new.faults result }
     {
         match fill_buffer(&mut self.file, at, into) {
@@ -114,7 +122,8 @@ impl<F: PlacedFile> Tape for FileTape<F> {
     }
 
     fn put_at(&mut self, at: u64, bytes: &[u8]) -> Result<(), Failed>
-        requires { IfSome (F.told self.old.file) (λ held. at ≤ length held) }
+        requires place { IfSome (F.told self.old.file) (λ held. at ≤ length held) }
+        requires cuts { false ≡ false }
         // One that is only read takes nothing: that is a fault.
         ensures refused { only_reads self.old.access ≡ true
             → IsErr result × (self.new.file ≡ self.old.file) }
@@ -129,6 +138,7 @@ impl<F: PlacedFile> Tape for FileTape<F> {
 
         // As the trait says.
         ensures bytes { PutsAt (F.told self.old.file) (F.told self.new.file) at bytes.now result }
+        ensures cuts { false ≡ false }
         ensures cause { IsCounted self.old.faults self.new.faults result }
     {
         if only_reads(self.access) {
@@ -152,6 +162,8 @@ impl<F: PlacedFile> Tape for FileTape<F> {
         // Else it fails where the file does.
         ensures fault { OnErr result ((only_reads self.old.access ≡ true)
             ⊎ HasFailed (F.stops self.old.file) (F.stops self.new.file)) }
+        // One that failed isn't made again.
+        ensures once { OnOk result (F.stops self.new.file ≡ F.stops self.old.file) }
         ensures access { self.new.access ≡ self.old.access }
 
         // As the trait says.
@@ -183,6 +195,7 @@ impl<F: PlacedFile> Tape for FileTape<F> {
         // As the trait says.
         ensures settled { OnOk result (F.synced self.new.file ≡ true) }
         ensures same { F.told self.new.file ≡ F.told self.old.file }
+        ensures cuts { OnOk result (false ≡ false) }
         ensures cause { IsCounted self.old.faults self.new.faults result }
     {
         match self.file.sync_data() {
@@ -207,6 +220,7 @@ fn fill_buffer<F: PlacedFile>(file: &mut F, at: u64, into: &mut [u8]) -> Result<
     ensures same { F.told file.new ≡ F.told file.old }
     ensures fault { OnErr result (IsBeyond at (length into.new)
         ⊎ HasFailed (F.stops file.old) (F.stops file.new)) }
+    ensures once { OnOk result (NoneFailed (F.stops file.old) (F.stops file.new)) }
 {
     let mut filled = 0;
     while filled < into.len() {
@@ -229,6 +243,7 @@ fn read_again<F: PlacedFile>(file: &mut F, at: u64, into: &mut [u8]) -> Result<u
     ensures same { F.told file.new ≡ F.told file.old }
     ensures later { WasInterrupted 0 (F.stops file.old) (F.stops file.new) }
     ensures fault { OnErr result (HasFailed (F.stops file.old) (F.stops file.new)) }
+    ensures once { OnOk result (NoneFailed (F.stops file.old) (F.stops file.new)) }
 {
     for _ in 0..u64::MAX {
         match file.read_at(at, into) {

@@ -16,7 +16,7 @@ use Rattle.kr_kms.specs.declared.plugin.KmsNo.TheVariants as kms
 use Rattle.kr_kms.specs.declared.plugin.Status.{Status}
 use Rattle.kr_kms.specs.declared.seeds.SeedRow.{SeedRow}
 use Rattle.kr_provider.specs.Envelopes.{Envelope, seed_key}
-use Rattle.kr_provider.specs.Exchanges.{IsRefusalAt, IsToldAt, MakesSeedsBy, ReadsBy, all_made, fetched, no_memory as reads_nothing, no_room, refused, unasked, went_on, with_seed_first}
+use Rattle.kr_provider.specs.Exchanges.{IsRefusalAt, IsToldAt, MakesSeedsBy, ReadsBy, TellsKeyIdAt, all_made, fetched, no_memory as reads_nothing, no_name, no_room, refused, unasked, went_on, with_seed_first}
 use Rattle.kr_provider.specs.Reading.{Unseals}
 use Rattle.kr_provider.specs.declared.refusal.Opened.{Opened}
 use Rattle.kr_provider.specs.declared.refusal.PublishNo.{PublishNo}
@@ -151,16 +151,12 @@ publish_blame cause = blame_of (publish_refusal cause)
 
 told_bears : (es : List Exchange) (name : List ℕ) (why : SeedNo) (cause : PublishNo)
     → IsRefusalAt name why cause → Bears es (seed_blame name why) → Bears es (publish_blame cause)
-told_bears es name seed.Failed cause (inl is) b =
+told_bears es name seed.Failed cause is b =
     subst (λ (n : PublishNo). Bears es (publish_blame n)) (sym is) b
-told_bears es name seed.Failed cause (inr is) b =
-    subst (λ (n : PublishNo). Bears es (publish_blame n)) (sym is) tt
 told_bears es name seed.DiceFailed cause is b =
     subst (λ (n : PublishNo). Bears es (publish_blame n)) (sym is) tt
-told_bears es name (seed.Unhealthy field text) cause (inl is) b =
+told_bears es name (seed.Unhealthy field text) cause is b =
     subst (λ (n : PublishNo). Bears es (publish_blame n)) (sym is) b
-told_bears es name (seed.Unhealthy field text) cause (inr is) b =
-    subst (λ (n : PublishNo). Bears es (publish_blame n)) (sym is) tt
 told_bears es name seed.NoMemory cause is b =
     subst (λ (n : PublishNo). Bears es (publish_blame n)) (sym is) tt
 
@@ -183,6 +179,7 @@ module _ {D : Type 0} (left : D → Option (List ℕ)) (count : D → ℕ) (name
   seeds_bear passed dice _ _ _ (refused {after = after} {exchanges = es} name why cause next makes told) =
       told_bears es name why cause told
       (seed_bears left count name dice (Err why) after es makes)
+  seeds_bear passed dice _ _ _ (no_name name next) = tt
   seeds_bear passed dice _ _ _ (no_room name row next makes) = tt
   seeds_bear passed dice _ _ _ (went_on {between = between} {after = after} {exchanges = es}
       {others = fs} {result = result} name row next makes rest) =
@@ -235,6 +232,12 @@ none_told name cause es (Ok key) tells told = absurd (subst IsFine (sym told) tt
 none_told name cause es (Err why) tells told =
     told_bears es name why cause told (key_bears name (Err why) es tells)
 
+key_untold : (name : List ℕ) (cause : PublishNo) (es : List Exchange)
+    → TellsKeyIdAt name (Err cause) es → Bears es (publish_blame cause)
+key_untold name cause es (inl (answer, tells, told)) = none_told name cause es answer tells told
+key_untold name cause es (inr lacks) =
+    subst (λ (n : PublishNo). Bears es (publish_blame n)) (sym lacks.0) tt
+
 keys_right : (es fs : List Exchange) (seeds : List SeedRow) → HaveSeedKeys fs seeds
     → HaveSeedKeys (es ++ fs) seeds
 keys_right es fs seeds all = All-weaker (λ (row : SeedRow). HasKeyId fs row.name row.key_id)
@@ -263,7 +266,7 @@ keys_compared _ _ _ (changed {exchanges = es} row rest key_id tells other) =
     (row, (0, omega arith, refl), key_id, other, key_told row.name key_id es tells.0 tells.1 tells.2)
 keys_compared _ _ _ (told_none {exchanges = es} row rest cause why tells is) =
     subst (λ (w : CallNo). Compared es (row ∷ rest) (Err w)) (sym is)
-    (not_gone cause, none_told row.name cause es tells.0 tells.1 tells.2)
+    (not_gone cause, key_untold row.name cause es tells)
 keys_compared _ _ _ (compared_on {exchanges = es} {others = fs} {result = result} row rest tells
     more) = compared_more es fs row rest result
     (key_told row.name row.key_id es tells.0 tells.1 tells.2) (keys_compared rest result fs more)

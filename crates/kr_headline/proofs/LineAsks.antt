@@ -13,7 +13,7 @@ use Rattle.kr_kms.specs.declared.plugin.KmsNo.{KmsNo}
 use Rattle.kr_kms.specs.declared.seeds.SeedKey.{SeedKey}
 use Rattle.kr_kms.specs.declared.seeds.SeedRow.{SeedRow}
 use Rattle.kr_provider.specs.Envelopes.{seed_key}
-use Rattle.kr_provider.specs.Exchanges.{MakesSeedsBy, PublishesBy, ReadsBy, all_made, fetched, no_memory as reads_nothing, no_room, refused, unasked, went_on}
+use Rattle.kr_provider.specs.Exchanges.{MakesSeedsBy, PublishesBy, ReadsBy, all_made, fetched, no_memory as reads_nothing, no_name, no_room, refused, unasked, went_on}
 use Rattle.kr_provider.specs.Publication.{Publication, list_at}
 use Rattle.kr_provider.specs.declared.refusal.Opened.{Opened}
 use Rattle.kr_provider.specs.declared.refusal.PublishNo.{PublishNo}
@@ -130,6 +130,7 @@ module _ {D : Type 0} (left : D → Option (List ℕ)) (count : D → ℕ) where
     seeds_ask passed dice _ _ _ (all_made none) = All-nil IsLoad
     seeds_ask passed dice _ _ _ (refused {after = after} {exchanges = es} name why cause next
         makes told) = seed_asks name dice (Err why) after es makes
+    seeds_ask passed dice _ _ _ (no_name name next) = All-nil IsLoad
     seeds_ask passed dice _ _ _ (no_room {after = after} {exchanges = es} name row next makes) =
         seed_asks name dice (Ok row) after es makes
     seeds_ask passed dice _ _ _ (went_on {between = between} {after = after} {exchanges = es}
@@ -155,8 +156,10 @@ module _ {D : Type 0} (left : D → Option (List ℕ)) (count : D → ℕ) where
   keys_ask _ _ _ all_same = All-nil IsLoad
   keys_ask _ _ _ (changed {exchanges = es} row rest key_id tells other) =
       key_asks row.name tells.0 es tells.1
-  keys_ask _ _ _ (told_none {exchanges = es} row rest cause why tells is) =
+  keys_ask _ _ _ (told_none {exchanges = es} row rest cause why (inl tells) is) =
       key_asks row.name tells.0 es tells.1
+  keys_ask _ _ _ (told_none row rest cause why (inr lacks) is) =
+      subst (All IsLoad) (sym lacks.1) (All-nil IsLoad)
   keys_ask _ _ _ (compared_on {exchanges = es} {others = fs} {result = result} row rest tells
       more) = All-append IsLoad es fs (key_asks row.name tells.0 es tells.1)
       (keys_ask rest result fs more)

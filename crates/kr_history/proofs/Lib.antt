@@ -35,4 +35,5 @@ pub mod NothingAdopted
 pub mod PartsAdd
 pub mod RevisionsRise
 pub mod Sound
+pub mod TornTails
 pub mod WithoutPlugin

@@ -1,6 +1,7 @@
 -- Laws of what one entry of a history does to what is stored, by its line alone; and that no fault
--- of the store is hidden.
-use Rattle.std.specs.Prelude.{◌≡◌, ◌≢◌, ◌↔◌, ℕ, ◌+◌, List, [], ◌∷◌, ◌++◌, length, All, Option, None, Some, IsSome, ⊤}
+-- of the store is hidden, nor that a write failed since the last one that was done.
+use Rattle.std.specs.Prelude.{◌≡◌, ◌≢◌, ◌↔◌, ℕ, ◌+◌, ◌⊎◌, Bool, true, false, List, [], ◌∷◌, ◌++◌, length, All, Option, None, Some, IsSome, ⊤}
+use Rattle.kr_base.specs.Faults.{Rose}
 use Rattle.kr_store.specs.declared.rows.LogRow.{LogRow}
 use Rattle.kr_store.specs.declared.rows.Row.{Row}
 use Rattle.kr_store.specs.Rows.{live}
@@ -12,7 +13,7 @@ use Rattle.kr_rollout.specs.declared.line.Gave.{Gave}
 use Rattle.kr_rollout.specs.declared.line.Gave.TheVariants.{Written, StoreFailed}
 use Rattle.kr_rollout.specs.declared.opening.Entry.{Entry}
 use Rattle.kr_rollout.specs.declared.opening.Opening.{Opening}
-use Rattle.kr_rollout.specs.Histories.{state_of, IsLegal}
+use Rattle.kr_rollout.specs.Histories.{ends_torn, state_of, IsLegal}
 use Rattle.kr_rollout.specs.Written.{path_written}
 use Rattle.kr_history.specs.Contents.{ContentChange, puts, deletes, change_at, IsContent}
 
@@ -74,3 +75,30 @@ abbrev pub FaultsAreTold : Type 0
 FaultsAreTold = (o : Opening) (history more : List Entry) → IsLegal o (history ++ more)
     → All (λ e. TellsNoFault e.line.gave) more
     → (state_of o (history ++ more)).count ≡ (state_of o history).count
+
+-- ---- writes that failed
+
+-- neither that a row was written, nor that the store failed
+abbrev pub TellsNoWrite : Gave → Type 0
+TellsNoWrite (Written revision) = ⊥
+TellsNoWrite StoreFailed = ⊥
+TellsNoWrite gave = ⊤
+
+-- whether a write has failed since the last one that was done, behind an answer that tells of one
+abbrev pub TornBy : Gave → (torn : Bool) → Type 0
+TornBy (Written revision) torn = torn ≡ false
+TornBy StoreFailed torn = torn ≡ true
+TornBy gave torn = ⊤
+
+-- The last entry that tells of a write says whether one has failed since the last one that was
+-- done, and where none tells of a write it is as at the opening. Where one has failed, it had at
+-- the opening or the count of the store's faults rose
+pub record TornIsTold : Type 0 where
+  pub by_last : (o : Opening) (history more : List Entry) (e : Entry)
+      → All (λ entry. TellsNoWrite entry.line.gave) more
+      → TornBy e.line.gave (ends_torn o (history ++ e ∷ more))
+  pub by_none : (o : Opening) (history : List Entry)
+      → All (λ entry. TellsNoWrite entry.line.gave) history → ends_torn o history ≡ o.torn
+  pub rose : (o : Opening) (history : List Entry) → IsLegal o history
+      → ends_torn o history ≡ true
+      → (o.torn ≡ true) ⊎ Rose o.count (state_of o history).count

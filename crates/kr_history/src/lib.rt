@@ -45,7 +45,7 @@ pub use laws_fit::{
 };
 pub use laws_keys::keys_at_each_moment;
 pub use laws_lack::{refused_exactly, verdict_refuses_exactly};
-pub use laws_line::{faults_are_told, line_changes_content, line_changes_live};
+pub use laws_line::{faults_are_told, line_changes_content, line_changes_live, torn_is_told};
 pub use laws_parts::{bounds_follow, parts_follow, parts_sum_to_whole};
 pub use laws_size::full_is_exact;
 pub use outcome::{Joining, Reloading, Replacing};

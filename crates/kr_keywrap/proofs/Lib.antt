@@ -2,6 +2,7 @@
 pub mod Answering
 pub mod Blocks
 pub mod Bodies
+pub mod Counts
 pub mod Halves
 pub mod Lines
 pub mod Loops

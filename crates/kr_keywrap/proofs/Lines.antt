@@ -1,5 +1,5 @@
 -- Bytes that are pending, and the lines among them.
-use Rattle.std.proofs.Common.{◌≡◌, ◌≢◌, ℕ, Result, Ok, Err, MatchResult, ◌+◌, ◌-◌, ◌<◌, ◌≤◌, List, [], ◌++◌, length, take, drop, get_or, Option, sym, ap, ◌∙◌, arith}
+use Rattle.std.proofs.Common.{◌≡◌, ◌≢◌, ℕ, Result, Ok, Err, MatchResult, ◌+◌, ◌-◌, ◌<◌, ◌≤◌, List, [], ◌++◌, length, take, drop, get_or, Option, refl, sym, ap, ◌∙◌, arith}
 use Rattle.std.proofs.KnownBytes.{Consumes-kept, Consumes-nil, Consumes-trans}
 use Rattle.std.specs.Io.KnownBytes.{Keeps, ReadConsumes}
 use Rattle.std.specs.Io.{ReadsAtMost}
@@ -35,26 +35,26 @@ pub record Reading (left_old left : Option (List ℕ)) (old pending : List ℕ) 
   pub grows : Grows left_old left old pending
   pub unbroken : IsUnbroken pending scanned
   pub within : scanned ≤ length pending
-  pub later : count_old ≤ count
+  pub same : count ≡ count_old
 
 pub reading_none : (left : Option (List ℕ)) (pending : List ℕ) (count : ℕ) → Reading left left pending pending 0 count count
 reading_none left pending count = record {
   grows = grows_none left pending;
   unbroken = λ k lt. absurd (omega arith);
   within = omega arith;
-  later = omega arith;
+  same = refl;
 }
 
 pub reading_more : (a b c : Option (List ℕ)) (p q r : List ℕ) (scanned next n i j k : ℕ) → Reading a b p q scanned i j → IsUnbroken q (length q) → next ≡ length q
-    → GrowsBy b c q r n → j ≤ k → Reading a c p r next i k
-reading_more a b c p q r scanned next n i j k before unbroken at more later =
+    → GrowsBy b c q r n → k ≡ j → Reading a c p r next i k
+reading_more a b c p q r scanned next n i j k before unbroken at more same =
     record {
       grows = grows_more a b c p q r before.grows more.grows;
       unbroken = λ m lt found.
           let within : m < length q = omega (arith, at, lt) in
           unbroken m within (sym (get_or_append_left q more.grows.bytes 0 m within) ∙ ap (λ (l : List ℕ). get_or l m 0) (sym more.grows.behind) ∙ found);
       within = omega (arith, more.size, at);
-      later = omega (arith, before.later, later);
+      same = same ∙ before.same;
     }
 
 -- nothing more came

@@ -1,7 +1,8 @@
 -- A plugin's loop: which lines it answered, what it wrote, and how it ended.
-use Rattle.std.specs.Prelude.{◌≡◌, ◌≢◌, ℕ, ◌+◌, ◌<◌, ◌≤◌, ◌⊎◌, List, [], ◌∷◌, ◌++◌, All, length, take, Option}
+use Rattle.std.specs.Prelude.{◌≡◌, ◌≢◌, ℕ, ◌+◌, ◌<◌, ◌≤◌, ◌⊎◌, Bool, true, false, List, [], ◌∷◌, ◌++◌, All, length, take, Option}
 use Rattle.std.specs.List.{flat_map}
 use Rattle.std.specs.Io.KnownBytes.{Appends, Consumes, IsAtEnd}
+use Rattle.kr_base.specs.Numbering.{next_number}
 use Rattle.kr_keywrap.specs.Answer.{Plugin, answer}
 use Rattle.kr_keywrap.specs.declared.serving.Served.{Served}
 use Rattle.kr_keywrap.specs.declared.serving.Served.TheVariants.{Done, Failed, NoMemory, TooLong}
@@ -81,6 +82,20 @@ pub record Serves (plugin : Plugin) (left_old left held_old held : Option (List 
   pub are_lines : AreServedLines lines
   pub unbroken : HasNoBreak next
   pub ends : ServingEnds plugin lines next behind left held_old held SourceRises SinkRises served
+
+-- whether the source or the sink failed
+abbrev pub serve_failed : Served → Bool
+serve_failed Failed = true
+serve_failed other = false
+
+-- the counts of the source and of the sink behind it: one of them rose, by one, where it ended by a
+-- fault, and none where it ended otherwise. So what failed isn't tried again, and no fault is told
+-- as want of memory
+abbrev pub CountsFaults : Served → (source_old source sink_old sink : ℕ) → Type 0
+CountsFaults Failed source_old source sink_old sink =
+    ((source ≡ next_number source_old) × (sink ≡ sink_old))
+    ⊎ ((source ≡ source_old) × (sink ≡ next_number sink_old))
+CountsFaults other source_old source sink_old sink = (source ≡ source_old) × (sink ≡ sink_old)
 
 -- the exit status
 abbrev pub status_of : Served → ℕ

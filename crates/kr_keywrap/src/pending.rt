@@ -1,7 +1,8 @@
 //! Bytes that were read of a source and not answered yet.
 ghost use Rattle.std.specs.Prelude.{◌≡◌, [], ◌+◌, ◌<◌, ◌≤◌, length, take, drop, IfOk, MatchResult};
 ghost use Rattle.std.specs.Io.KnownBytes.{Keeps};
-ghost use Rattle.kr_base.specs.Faults.{IsCounted, Rose};
+ghost use Rattle.kr_base.specs.Faults.{IsCounted, Rose, counted, tells_fault};
+ghost use Rattle.kr_keywrap.specs.Serving.{serve_failed};
 ghost use Rattle.kr_keywrap.specs.inner.Lines.{Finds, FindsBreak, Grows, GrowsBy, IsUnbroken};
 
 use crate::serving::Served;
@@ -115,6 +116,8 @@ pub(crate) fn next_line<S: Source>(
     ensures finds { Finds (S.left source.new) pending.new
         (Rose (S.count source.old) (S.count source.new)) result }
     ensures later { S.count source.old ≤ S.count source.new }
+    ensures once { S.count source.new
+        ≡ counted (tells_fault serve_failed result) (S.count source.old) }
 {
     let mut scanned = 0;
     'reading: loop {

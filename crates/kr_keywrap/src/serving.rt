@@ -1,11 +1,11 @@
 //! A plugin's loop: it reads requests as lines and answers each by a line.
 ghost use Rattle.std.specs.Prelude.{◌≡◌, ◌+◌, ◌<◌, ◌≤◌, length, take, drop, OnOk};
 ghost use Rattle.kr_aes.specs.KeyExpansion.{IsKeyLength, IsSchedule};
-ghost use Rattle.kr_base.specs.Faults.{Rose};
+ghost use Rattle.kr_base.specs.Faults.{Rose, counted, tells_fault};
 ghost use Rattle.kr_base.specs.Limits.{IsShort};
 ghost use Rattle.kr_keywrap.specs.Answer.{plugin_under};
-ghost use Rattle.kr_keywrap.specs.Serving.{Serves, status_of};
-ghost use Rattle.kr_keywrap.specs.inner.Lines.{ServesOne, WritesAnswer, WritesLast};
+ghost use Rattle.kr_keywrap.specs.Serving.{CountsFaults, Serves, serve_failed, status_of};
+ghost use Rattle.kr_keywrap.specs.inner.Lines.{CountsNext, ServesOne, WritesAnswer, WritesLast};
 
 use crate::answer::answer;
 use crate::keys::expand;
@@ -44,7 +44,8 @@ impl Served {
 /// Answers each line of the source in order, a last line without LF too where it isn't empty. The
 /// key has 16, 24 or 32 bytes, and the key id 1 to 1,024. The status is 0 at the source's end, 4
 /// after a fault of the source or the sink, 5 for want of memory, and 6 where a line has more than
-/// 131,072 bytes or the source goes on behind 4,294,967,295 lines.
+/// 131,072 bytes or the source goes on behind 4,294,967,295 lines. One count of faults is higher by
+/// one behind 4, and none behind another status.
 pub fn serve<S: Source, K: Sink>(
     alloc: Global,
     kek: &[u8],
@@ -59,7 +60,9 @@ pub fn serve<S: Source, K: Sink>(
         (S.left source.old) (S.left source.new) (K.held sink.old) (K.held sink.new)
         (Rose (S.count source.old) (S.count source.new))
         (Rose (K.count sink.old) (K.count sink.new))
-        served }
+        served
+        × CountsFaults served (S.count source.old) (S.count source.new)
+        (K.count sink.old) (K.count sink.new) }
     ensures source { S.count source.old ≤ S.count source.new }
     ensures sink { K.count sink.old ≤ K.count sink.new }
 {
@@ -84,6 +87,8 @@ fn serve_lines<S: Source, K: Sink>(
         (Rose (S.count source.old) (S.count source.new))
         (Rose (K.count sink.old) (K.count sink.new))
         result }
+    ensures faults { CountsFaults result (S.count source.old) (S.count source.new)
+        (K.count sink.old) (K.count sink.new) }
     ensures source { S.count source.old ≤ S.count source.new }
     ensures sink { K.count sink.old ≤ K.count sink.new }
 {
@@ -137,6 +142,8 @@ fn serve_next<S: Source, K: Sink>(
         (Rose (S.count source.old) (S.count source.new))
         (Rose (K.count sink.old) (K.count sink.new))
         result }
+    ensures faults { CountsNext result (S.count source.old) (S.count source.new)
+        (K.count sink.old) (K.count sink.new) }
     ensures source { S.count source.old ≤ S.count source.new }
     ensures sink { K.count sink.old ≤ K.count sink.new }
 {
@@ -171,6 +178,8 @@ fn serve_line<K: Sink>(
         (K.held sink.old) (K.held sink.new) (Rose (K.count sink.old) (K.count sink.new)) result }
     ensures left { OnOk result (pending.new ≡ drop (place + 1) pending.old) }
     ensures sink { K.count sink.old ≤ K.count sink.new }
+    ensures once { K.count sink.new
+        ≡ counted (tells_fault serve_failed result) (K.count sink.old) }
 {
     write_answer(alloc, words, rounds, key_id, pending.front(place), sink)?;
     pending.drop_front(place + 1);
@@ -191,6 +200,8 @@ fn serve_last<K: Sink>(
         (record { words = words.now; rounds = rounds; key_id = key_id.now }) last.now
         (K.held sink.old) (K.held sink.new) (Rose (K.count sink.old) (K.count sink.new)) result }
     ensures sink { K.count sink.old ≤ K.count sink.new }
+    ensures once { K.count sink.new
+        ≡ counted (tells_fault serve_failed result) (K.count sink.old) }
 {
     if last.is_empty() {
         return Ok(());
@@ -212,6 +223,8 @@ fn write_answer<K: Sink>(
         (record { words = words.now; rounds = rounds; key_id = key_id.now }) line.now
         (K.held sink.old) (K.held sink.new) (Rose (K.count sink.old) (K.count sink.new)) result }
     ensures sink { K.count sink.old ≤ K.count sink.new }
+    ensures once { K.count sink.new
+        ≡ counted (tells_fault serve_failed result) (K.count sink.old) }
 {
     let Ok(bytes) = answer(alloc, words, rounds, key_id, line) else {
         return Err(Served::NoMemory);

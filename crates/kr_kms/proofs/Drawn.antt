@@ -10,6 +10,6 @@ use Rattle.kr_kms.specs.inner.Wrapping.{IsDrawn}
 pub not_drawn : {D : Type 0} (left : D → Option (List ℕ)) (count : D → ℕ)
     (old new : Link) (dice after : D) (why : SeedNo) → HasBreach old None
     → IsDrawn left count dice (Err why) after → MakesSeed left count old dice (Err why) new after
-not_drawn left count old new dice after DiceFailed well none = (well, none.0, none.1)
+not_drawn left count old new dice after DiceFailed well none = (well, none.0, none.1, none.2)
 not_drawn left count old new dice after NoMemory well same = inl same
 not_drawn left count old new dice after other well none = absurd none

@@ -122,6 +122,7 @@ new_tape room = record {
   room = room;
   reads = record { fails = []; made = 0; faults = 0 };
   writes = record { fails = []; made = 0; faults = 0 };
+  settles = record { fails = []; made = 0; faults = 0 };
 }
 
 -- a tape that is here is given, and else a new one where it is to be made; while one of the name is

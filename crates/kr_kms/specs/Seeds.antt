@@ -39,20 +39,23 @@ row_with name seed wrapped = record {
 }
 
 module _ {D : Type 0} (left : D → Option (List ℕ)) (count : D → ℕ) where
-  -- the bytes of a seed were drawn
+  -- the bytes of a seed were drawn, and no draw failed
   abbrev pub DrawsSeed : D → D → Type 0
   DrawsSeed dice after =
       (drawn : List ℕ) × (length drawn ≡ 32) × Consumes (left dice) (left after) drawn
+      × (count after ≡ count dice)
 
   -- a seed that was drawn and wrapped once the plugin was healthy, or why there is none: the status
   -- is asked first, then the seed is drawn, then it is wrapped
   abbrev pub MakesSeed : Link → D → Result SeedRow SeedNo → Link → D → Type 0
   MakesSeed old dice (Ok row) new after = HasBreach old None × (row.name ≡ old.name)
       × IsSeedRow row × Consumes (left dice) (left after) row.seed
+      × (count after ≡ count dice)
   MakesSeed old dice (Err (Unhealthy field text)) new after =
       HasBreach old (Some (field, text)) × (after ≡ dice)
   MakesSeed old dice (Err DiceFailed) new after = HasBreach old None
       × Rose (count dice) (count after) × Keeps (left dice) (left after)
+      × (count after ≡ next_number (count dice))
   MakesSeed old dice (Err Failed) new after = Rose old.count new.count
       × ((after ≡ dice) ⊎ (HasBreach old None × DrawsSeed dice after))
   MakesSeed old dice (Err NoMemory) new after =

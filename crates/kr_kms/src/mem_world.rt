@@ -1,6 +1,6 @@
 //! A world in memory, for tests.
 ghost use Rattle.std.specs.Prelude.{◌≡◌, [], ◌∷◌, ◌++◌, ◌<◌, ◌==◌, ◌&&◌, length, position, count_by};
-ghost use Rattle.std.specs.Prelude.{⊤, is_ok, if◌then◌else◌, Some, IfOk, IfErr, IfSome, OnErr, IsErrOf};
+ghost use Rattle.std.specs.Prelude.{⊤, false, is_ok, if◌then◌else◌, Some, IfOk, IfErr, IfSome, OnErr, IsErrOf};
 ghost use Rattle.std.specs.Option.{option_copied, option_map};
 ghost use Rattle.std.specs.Str.{bytes_eq};
 ghost use Rattle.kr_base.specs.Faults.{Rose, counted};
@@ -164,6 +164,7 @@ impl<L: Kms + Send> World for MemWorld<L> {
             (makes access) (Some tape.bytes)) }
         ensures alone { IfOk result (λ tape. (⟦<MemWorld<L> as World>⟧.told self.old).tapes.out
             name.now ≡ 0) }
+        ensures cuts { IfOk result (λ tape. false ≡ false) }
         ensures err { OnErr result ((⟦<MemWorld<L> as World>⟧.told self.new).tapes ≡
             (⟦<MemWorld<L> as World>⟧.told self.old).tapes) }
         ensures refusals { IfErr result (λ why. RefusesTape
@@ -470,7 +471,14 @@ fn make_tape(
     ensures refusals { IfErr result (λ why. why ≡ FileNo.NoMemory) }
     ensures err { OnErr result (tapes.new ≡ tapes.old) }
 {
-    let tape = MemTape::new(Bytes::new(alloc), room, List::new(alloc), List::new(alloc));
+    let none = List::new(alloc);
+    let tape = MemTape::new(
+        Bytes::new(alloc),
+        room,
+        List::new(alloc),
+        List::new(alloc),
+        none,
+    );
     let Ok((key, tape)) = both(Text::copy(alloc, name), tape) else {
         return Err(FileNo::NoMemory);
     };

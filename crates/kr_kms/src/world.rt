@@ -1,6 +1,6 @@
 //! The world that a command runs in: its files, the tapes that it writes, the random source of each
 //! seat, and the links of each seat to plugins.
-ghost use Rattle.std.specs.Prelude.{◌≡◌, ◌<◌, ℕ, IfOk, IfErr, OnErr, IsErrOf, true, Some, option_map};
+ghost use Rattle.std.specs.Prelude.{◌≡◌, ◌<◌, ℕ, IfOk, IfErr, OnErr, IsErrOf, true, false, Some, option_map};
 ghost use Rattle.kr_base.specs.Faults.{Rose, counted};
 ghost use Rattle.kr_kms.specs.Outside.{Outside, file_faults, FetchesFile, NotesCall, KeepsFiles, KeepsObjects, with_call};
 ghost use Rattle.kr_kms.specs.Outside.{HandsOut, TakesBack, same_seat, same_name, same_link};
@@ -117,6 +117,7 @@ pub trait World {
         ensures tape { IfOk result (λ tape. IsTape ((told self.old).tapes.told name.now)
             (makes access) (Self.Tap.told tape)) }
         ensures alone { IfOk result (λ tape. (told self.old).tapes.out name.now ≡ 0) }
+        ensures cuts { IfOk result (λ tape. Self.Tap.loose tape ≡ false) }
         ensures err { OnErr result ((told self.new).tapes ≡ (told self.old).tapes) }
         ensures refusals { IfErr result
             (λ why. RefusesTape ((told self.old).tapes.told name.now) (makes access) why) }

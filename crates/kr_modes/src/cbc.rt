@@ -9,8 +9,8 @@ ghost use Rattle.kr_aes_bitsliced.specs.KeyPlanes.{key_planes};
 ghost use Rattle.kr_modes.specs.Padding.{pad, unpad};
 ghost use Rattle.kr_modes.specs.inner.Opened.{opened_from};
 
-use crate::ModeNo;
 use crate::blocks::{self, BLOCK};
+use crate::{ModeNo, wiping};
 use kr_aes::Rounds;
 use kr_aes_bitsliced::{KeyPlanes, Planes};
 
@@ -60,9 +60,9 @@ pub fn cbc_seal_in_place(
 }
 
 /// Opens what `cbc_seal` sealed: the body is the IV and the blocks behind it. The length of the
-/// data is answered, and the data stand at the front of `out`; the rest of `out` is any bytes.
-/// After `BadPadding` all of it is zero, so that nothing of what a wrong key made is left. A wrong
-/// key isn't noticed where what it decrypts to is padded data. The words and the rounds are what
+/// data is answered, and the data stand at the front of `out`; behind them it is zero. After
+/// `BadPadding` all of it is zero, so that nothing of what a wrong key made is left. A wrong key
+/// isn't noticed where what it decrypts to is padded data. The words and the rounds are what
 /// `kr_aes::expand` gave for one key.
 pub fn cbc_unseal(
     words: &[u32; 60],
@@ -77,6 +77,7 @@ pub fn cbc_unseal(
         (λ n. cbc_opened (inverse_cipher words.now rounds) body.now ≡ Ok (take n out.new))
         (λ why. cbc_opened (inverse_cipher words.now rounds) body.now ≡ Err why) }
     ensures within { IfOk result (λ n. n < length out.new) }
+    ensures rest { IfOk result (λ n. drop n out.new ≡ replicate (length out.old - n) 0) }
     ensures kept { IfErr result (λ why. why ≢ ModeNo.BadPadding → out.new ≡ out.old) }
     ensures wiped { IsErrOf result ModeNo.BadPadding → out.new ≡ replicate (length out.old) 0 }
 {
@@ -88,7 +89,7 @@ pub fn cbc_unseal(
 }
 
 /// The same in one buffer: the body stands behind its first `from` bytes, and the data stand at
-/// its front afterwards. After `BadPadding` all of the buffer is zero.
+/// its front afterwards, with zeros behind them. After `BadPadding` all of the buffer is zero.
 pub fn cbc_unseal_in_place(
     words: &[u32; 60],
     rounds: Rounds,
@@ -102,6 +103,7 @@ pub fn cbc_unseal_in_place(
         (λ n. cbc_opened (inverse_cipher words.now rounds) body ≡ Ok (take n buffer.new))
         (λ why. cbc_opened (inverse_cipher words.now rounds) body ≡ Err why) }
     ensures within { IfOk result (λ n. n < length buffer.new) }
+    ensures rest { IfOk result (λ n. drop n buffer.new ≡ replicate (length buffer.old - n) 0) }
     ensures kept { IfErr result (λ why. why ≢ ModeNo.BadPadding → buffer.new ≡ buffer.old) }
     ensures wiped { IsErrOf result ModeNo.BadPadding
         → buffer.new ≡ replicate (length buffer.old) 0 }
@@ -128,12 +130,14 @@ fn refused_size(size: usize) -> Option<ModeNo>
 }
 
 /// Writes the decryption of the blocks to the front of the buffer. The IV and the blocks stand
-/// behind its first `from` bytes. The length of the data whose padding they are is answered.
+/// behind its first `from` bytes. The length of the data whose padding they are is answered, and
+/// behind the data the buffer is zero.
 fn open(words: &[u32; 60], rounds: Rounds, buffer: &mut [u8], from: usize) -> Result<usize, ModeNo>
     requires fits { length buffer.old ≤ 4194304 }
     requires from { from + 16 < length buffer.old }
     requires whole { (length buffer.old - from) % 16 ≡ 0 }
     ensures within { IfOk result (λ n. n < length buffer.new) }
+    ensures rest { IfOk result (λ n. drop n buffer.new ≡ replicate (length buffer.old - n) 0) }
     ensures opened { let body = drop from buffer.old in MatchResult result
         (λ n. cbc_opened (inverse_cipher words.now rounds) body ≡ Ok (take n buffer.new))
         (λ why. cbc_opened (inverse_cipher words.now rounds) body ≡ Err why) }
@@ -142,7 +146,10 @@ fn open(words: &[u32; 60], rounds: Rounds, buffer: &mut [u8], from: usize) -> Re
 {
     decrypt(words, rounds, buffer, from);
     match unpadded_length(&buffer[..buffer.len() - from - BLOCK]) {
-        Some(length) => Ok(length),
+        Some(length) => {
+            wiping::wipe_behind(buffer, length);
+            Ok(length)
+        }
         None => {
             buffer.fill(0);
             Err(ModeNo::BadPadding)

@@ -1,6 +1,6 @@
 //! GCM (SP 800-38D sections 6.5 and 7) for nonces of 12 bytes.
 
-ghost use Rattle.std.specs.Prelude.{◌≡◌, ◌↔◌, ◌≤◌, ◌<◌, ◌+◌, ◌-◌, ◌*◌, ◌^◌, ◌++◌, length, take, drop, IfOk, OnErr, IsTrue, MatchResult};
+ghost use Rattle.std.specs.Prelude.{◌≡◌, ◌↔◌, ◌≤◌, ◌<◌, ◌+◌, ◌-◌, ◌*◌, ◌^◌, ◌++◌, length, take, drop, replicate, IfOk, OnErr, IsTrue, MatchResult};
 ghost use Rattle.std.specs.Int.{w64, to_be_bytes};
 ghost use Rattle.kr_aes.specs.Cipher.{cipher};
 ghost use Rattle.kr_aes.specs.KeyExpansion.{IsSchedule};
@@ -8,7 +8,7 @@ ghost use Rattle.kr_modes.specs.Gcm.{gctr, gcm, gcm_opened, gcm_tag};
 
 use crate::blocks::{self, BLOCK};
 use crate::gctr::{NONCE, gctr, stream_block};
-use crate::{ModeNo, ghash};
+use crate::{ModeNo, ghash, wiping};
 use kr_aes::Rounds;
 
 /// The length of a tag in bytes.
@@ -84,7 +84,7 @@ pub fn gcm_unseal(
 }
 
 /// The same in one buffer: the body stands behind its first `from` bytes, and the data stand at
-/// its front afterwards.
+/// its front afterwards, with zeros behind them.
 pub fn gcm_unseal_in_place(
     words: &[u32; 60],
     rounds: Rounds,
@@ -101,10 +101,12 @@ pub fn gcm_unseal_in_place(
         (λ n. gcm_opened (cipher words.now rounds) nonce.now aad.now body ≡ Ok (take n buffer.new))
         (λ why. gcm_opened (cipher words.now rounds) nonce.now aad.now body ≡ Err why) }
     ensures within { IfOk result (λ n. from + n + 16 ≡ length buffer.new) }
+    ensures rest { IfOk result (λ n. drop n buffer.new ≡ replicate (length buffer.old - n) 0) }
     ensures kept { OnErr result (buffer.new ≡ buffer.old) }
 {
     let size = checked_length(words, rounds, nonce, aad, &buffer[from..])?;
     gctr(words, rounds, nonce, &mut buffer[..from + size], from);
+    wiping::wipe_behind(buffer, size);
     Ok(size)
 }
 

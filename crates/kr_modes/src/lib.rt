@@ -8,6 +8,7 @@ mod gcm;
 mod gctr;
 mod ghash;
 pub mod laws;
+mod wiping;
 
 pub use cbc::{cbc_length, cbc_seal, cbc_seal_in_place, cbc_unseal, cbc_unseal_in_place};
 pub use gcm::{gcm_seal, gcm_seal_in_place, gcm_unseal, gcm_unseal_in_place};

@@ -8,6 +8,7 @@ pub mod Settling
 pub mod Writing
 pub mod Rounding
 pub mod WholePlan
+pub mod MovesDone
 pub mod OneReplica
 pub mod PassThenPut
 pub mod PathRows

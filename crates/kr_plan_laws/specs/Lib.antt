@@ -7,5 +7,6 @@ pub mod Settled
 pub mod LiveStates
 pub mod LivePlans
 pub mod WholePlans
+pub mod MovesDone
 pub mod Rewritten
 pub mod Refreshed

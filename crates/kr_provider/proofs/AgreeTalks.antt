@@ -16,7 +16,7 @@ use Rattle.kr_kms.proofs.Keys.{same_key}
 use Rattle.kr_kms.proofs.Opening.{agree_parts, fetch_open, seed_opens}
 use Rattle.kr_provider.specs.Envelopes.{Envelope, HasEnvelope, HasObject, IsEnvelopeOf, IsObjectOf, seed_key, source_by}
 use Rattle.kr_provider.specs.ExchangeLaws.{IsAnswerBy}
-use Rattle.kr_provider.specs.Exchanges.{AnswersByFetch, LacksSource, MakesSeedsBy, ReadsBy, all_made, fetched, no_memory, no_room, refused, unasked, went_on, with_seed_first}
+use Rattle.kr_provider.specs.Exchanges.{AnswersByFetch, LacksSource, MakesSeedsBy, ReadsBy, all_made, fetched, no_memory, no_name, no_room, refused, unasked, went_on, with_seed_first}
 use Rattle.kr_provider.specs.Publication.{seed_of}
 use Rattle.kr_provider.specs.Readers.{reader_in}
 use Rattle.kr_provider.specs.Reading.{Unseals}
@@ -40,6 +40,7 @@ module _ (opens : Opens) where
       → AgreeAll opens es → IfOk result (OpenAll opens)
   seeds_open left count names passed dice _ _ _ (all_made none) agree = All-nil (λ (r : SeedRow). opens (key_of r) ≡ Some r.seed)
   seeds_open left count names passed dice _ _ _ (refused name why refusal next makes told) agree = tt
+  seeds_open left count names passed dice _ _ _ (no_name name next) agree = tt
   seeds_open left count names passed dice _ _ _ (no_room name row next makes) agree = tt
   seeds_open left count names passed dice _ _ _ (went_on {between = between} {after = after} {exchanges = es} {others = fs} {result = result} name row next makes rest) agree =
       let parts = agree_parts opens es fs agree in

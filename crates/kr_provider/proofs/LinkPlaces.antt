@@ -1,5 +1,5 @@
 -- The link at the place of a name is asked, and the others stay.
-use Rattle.std.proofs.Common.{◌≡◌, ℕ, List, [], ◌∷◌, get_or, Some, refl, sym, ap, ◌∙◌, subst}
+use Rattle.std.proofs.Common.{◌≡◌, ℕ, List, [], ◌∷◌, get_or, Some, refl, ap, ◌∙◌, subst}
 use Rattle.std.specs.Prelude.{position, slice_set}
 use Rattle.std.specs.Str.{bytes_eq}
 use Rattle.kr_base.specs.Walks.{Talk}

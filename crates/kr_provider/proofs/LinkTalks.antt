@@ -1,6 +1,6 @@
 -- What one link of a list was asked, the list was.
-use Rattle.std.proofs.Common.{ℕ, List, [], ◌∷◌, ◌++◌, refl, sym, ap, subst}
-use Rattle.std.specs.Prelude.{Result}
+use Rattle.std.proofs.Common.{ℕ, List, [], ◌∷◌, ◌++◌, refl, sym, ap, subst, inl}
+use Rattle.std.specs.Prelude.{Result, ◌⊎◌}
 use Rattle.kr_base.specs.Walks.{Walk, Talk}
 use Rattle.kr_base.proofs.Walks.{talk_so}
 use Rattle.kr_kms.specs.Calls.{Link}
@@ -47,3 +47,12 @@ pub told_at : {S E T : Type 0} {step : S → E → S → Type 0} {old new : S} (
     (λ es. (given : Result T SeedNo) × Answers given es × IsToldAt name given result)
 told_at name answer result Answers told talk =
     talk_so _ _ _ _ _ talk (λ es answers. (answer, answers, told))
+
+-- the same where it may not have been asked
+pub refused_at : {S E T : Type 0} {step : S → E → S → Type 0} {old new : S} (name : List ℕ)
+    (answer : Result T SeedNo) (result : Result T PublishNo)
+    (Answers : Result T SeedNo → List E → Type 0) (Unasked : List E → Type 0)
+    → IsToldAt name answer result → Talk step old new (Answers answer) → Talk step old new
+    (λ es. ((given : Result T SeedNo) × Answers given es × IsToldAt name given result) ⊎ Unasked es)
+refused_at name answer result Answers Unasked told talk =
+    talk_so _ _ _ _ _ talk (λ es answers. inl (answer, answers, told))

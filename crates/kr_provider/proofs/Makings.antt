@@ -23,14 +23,6 @@ use Rattle.kr_provider.specs.inner.Making.{MakesAt, MakesOne}
 use Rattle.kr_provider.proofs.AskedLists.{asked_none, asked_one, asked_then, breach_back, had, has_at, rose_at, rose_from, rose_later}
 use Rattle.kr_provider.proofs.NameOrder.{IsStrictlySortedBy-none, ascend_more, before_next, comes_earlier, is_less, neither, none_between, not_itself, then_before, to_false}
 
--- the refusal that is told is the plugin's, or there is no memory to tell it
-pub told_or : (name : List ℕ) (why : SeedNo) (refusal : PublishNo) → IsRefusalAt name why refusal
-    → (refusal ≡ plugin_refusal name why) ⊎ (refusal ≡ NoMemory)
-told_or name seed.Failed refusal told = told
-told_or name seed.DiceFailed refusal told = inl told
-told_or name (seed.Unhealthy field text) refusal told = told
-told_or name seed.NoMemory refusal told = inl told
-
 -- whether a name doesn't come after another
 abbrev pub is_passed : List ℕ → List ℕ → Bool
 is_passed after other = not (comes_earlier after other)
@@ -239,7 +231,7 @@ module _ {L D : Type 0} (link : L → Link) (left : D → Option (List ℕ)) (co
         → MakesOne link left count next mids mid answer news after
         → EndsWithin link left count rows links dice after next
     within (Ok row) n to a =
-        within_by (Ok row) n to a (inr (a.asks.0, (row.seed, a.asks.2.seed, a.asks.3)))
+        within_by (Ok row) n to a (inr (a.asks.0, (row.seed, a.asks.2.seed, a.asks.3, a.asks.4)))
     within (Err seed.Failed) n to a = within_by (Err seed.Failed) n to a a.asks.1
     within (Err seed.DiceFailed) n to a = inl (ends_at [] n to (still a.asks.2))
     within (Err (seed.Unhealthy field text)) n to a = inl (ends_at [] n to (undrawn a.asks.1))
@@ -267,7 +259,8 @@ module _ {L D : Type 0} (link : L → Link) (left : D → Option (List ℕ)) (co
           ends_at [] n to (undrawn a.asks.1),
           healthy_before (Some (field, text)) (Err (seed.Unhealthy field text)) to a a.asks.0,
         )
-    ends NoMemory n to (answer, a) = (next, within answer n to a)
+    ends NoMemory n to (inl a) = (next, within (Err seed.NoMemory) n to a)
+    ends NoMemory n to (inr unasked) = (next, inl (ends_at [] n to (undrawn unasked.1)))
 
     -- every answer asked the next plugin alone
     pub asked_next : (answer : Result SeedRow PublishNo)
@@ -290,7 +283,9 @@ module _ {L D : Type 0} (link : L → Link) (left : D → Option (List ℕ)) (co
         by (Err (PluginFailed other)) a = one (Err seed.Failed) a.1
         by (Err DiceFailed) a = one (Err seed.DiceFailed) a
         by (Err (Unhealthy other field text)) a = one (Err (seed.Unhealthy field text)) a.1
-        by (Err NoMemory) a = one a.0 a.1
+        by (Err NoMemory) (inl a) = one (Err seed.NoMemory) a
+        by (Err NoMemory) (inr unasked) = subst (λ l. AskedOnly link (plugins_in rows) mids l)
+            (sym unasked.0) (asked_none link (plugins_in rows) mids)
 
   -- all are made where no plugin is next
   pub all_made : (rows : List ConfigEntry) (links : List L) (dice : D) (name : List ℕ) (made : List SeedRow)
@@ -306,20 +301,12 @@ module _ {L D : Type 0} (link : L → Link) (left : D → Option (List ℕ)) (co
       (news : List L) (after : D) → IsRefusalAt name why refusal
       → MakesOne link left count name links dice (Err why) news after
       → MakesAt link left count name links dice (Err refusal) news after
-  answers_at name links dice why refusal news after told a = by_told (told_or name why refusal told)
+  answers_at name links dice why refusal news after told a =
+      subst (λ r. MakesAt link left count name links dice (Err r) news after) (sym told) (by why a)
     where
       by : (why : SeedNo) → MakesOne link left count name links dice (Err why) news after
           → MakesAt link left count name links dice (Err (plugin_refusal name why)) news after
       by seed.Failed a = (refl, a)
       by seed.DiceFailed a = a
       by (seed.Unhealthy field text) a = (refl, a)
-      by seed.NoMemory a = (Err seed.NoMemory, a)
-
-      by_told : (refusal ≡ plugin_refusal name why) ⊎ (refusal ≡ NoMemory)
-          → MakesAt link left count name links dice (Err refusal) news after
-      by_told (inr e) =
-          subst (λ r. MakesAt link left count name links dice (Err r) news after) (sym e)
-          (Err why, a)
-      by_told (inl e) =
-          subst (λ r. MakesAt link left count name links dice (Err r) news after) (sym e)
-          (by why a)
+      by seed.NoMemory a = inl a

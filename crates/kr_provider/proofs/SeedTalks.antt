@@ -1,12 +1,12 @@
 -- The exchanges by which seeds are made one after another.
-use Rattle.std.proofs.Common.{◌≡◌, ℕ, List, [], ◌∷◌, ◌++◌, Option, Some, None, Result, Ok, Err, refl, sym, ap, subst, append-nil, append_assoc}
+use Rattle.std.proofs.Common.{◌≡◌, ℕ, List, [], ◌∷◌, ◌++◌, Option, Some, None, Result, Ok, Err, refl, sym, ap, subst, append-nil, append_assoc, inl, inr}
 use Rattle.kr_base.specs.Walks.{Talk}
 use Rattle.kr_base.proofs.Walks.{talk_none, talk_so, talk_then}
 use Rattle.kr_config.specs.Nexts.{IsNextName}
 use Rattle.kr_kms.specs.Exchanges.{Exchange}
 use Rattle.kr_kms.specs.Seeds.{MakesSeedBy}
 use Rattle.kr_kms.specs.declared.seeds.SeedRow.{SeedRow}
-use Rattle.kr_provider.specs.Exchanges.{MakesSeedsBy, all_made, refused, no_room, went_on, with_seed_first}
+use Rattle.kr_provider.specs.Exchanges.{MakesSeedsBy, all_made, refused, no_name, no_room, went_on, with_seed_first}
 use Rattle.kr_provider.specs.declared.refusal.PublishNo.{PublishNo}
 use Rattle.kr_provider.specs.declared.refusal.PublishNo.TheVariants.{NoMemory}
 use Rattle.kr_provider.specs.inner.Making.{MakesOneBy}
@@ -53,14 +53,19 @@ module _ {L D : Type 0} (step : L → Exchange → L → Type 0) (left : D → O
       one_told (Ok made) es (Ok given, makes, told) row is =
           let same : given ≡ row = cc in subst (λ r. MakesSeedBy left count name dice (Ok r) after es) same makes
       one_told (Ok made) es (Err why, makes, told) row is = absurd told
-      one_told (Err why) es (answer, makes, told) row is = absurd (cc)
+      one_told (Err why) es told row is = absurd (cc)
 
       -- the next plugin makes none
       stopped : (why : PublishNo) (es fs : List Exchange) → Completes passed made dice es
           → MakesOneBy left count name dice (Err why) after fs → Makes [] first (Err why) after (es ++ fs)
-      stopped why es fs completes (Ok row, makes, told) = absurd (cc)
-      stopped why es fs completes (Err cause, makes, told) =
+      stopped why es fs completes (inl (Ok row, makes, told)) = absurd (cc)
+      stopped why es fs completes (inl (Err cause, makes, told)) =
           completes (Err why) after fs (refused name cause why next makes told)
+      stopped why es fs completes (inr (lacks, same, none)) =
+          subst (λ gs. Makes [] first (Err why) after (es ++ gs)) (sym none)
+          (subst (λ d. Makes [] first (Err why) d (es ++ [])) (sym same)
+          (subst (λ w. Makes [] first (Err w) dice (es ++ [])) (sym lacks)
+          (completes (Err NoMemory) dice [] (no_name name next))))
 
       pub talk_stops : (why : PublishNo) → Talk step mid new (MakesOneBy left count name dice (Err why) after)
           → Talk step old new (Makes [] first (Err why) after)

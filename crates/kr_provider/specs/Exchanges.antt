@@ -35,11 +35,9 @@ plugin_refusal name seed.DiceFailed = publishing.DiceFailed
 plugin_refusal name (seed.Unhealthy field text) = publishing.Unhealthy name field text
 plugin_refusal name seed.NoMemory = publishing.NoMemory
 
--- it is told so; or, where its name is to be told, there is no memory for that
+-- it is told so, and as nothing else: the memory for its name is taken before it is asked
 abbrev pub IsRefusalAt : List ℕ → SeedNo → PublishNo → Type 0
-IsRefusalAt name seed.DiceFailed refusal = refusal ≡ publishing.DiceFailed
-IsRefusalAt name seed.NoMemory refusal = refusal ≡ publishing.NoMemory
-IsRefusalAt name why refusal = (refusal ≡ plugin_refusal name why) ⊎ (refusal ≡ publishing.NoMemory)
+IsRefusalAt name why refusal = refusal ≡ plugin_refusal name why
 
 -- what the plugin of this name answered is told
 abbrev pub IsToldAt : {T : Type 0} → List ℕ → Result T SeedNo → Result T PublishNo → Type 0
@@ -47,10 +45,14 @@ IsToldAt name (Ok answer) result = result ≡ Ok answer
 IsToldAt name (Err why) (Ok answer) = ⊥
 IsToldAt name (Err why) (Err refusal) = IsRefusalAt name why refusal
 
--- the key id of the plugin of this name: its status was asked, once
+-- the key id of the plugin of this name: its status was asked, once, and what it answered is told;
+-- or it wasn't asked, since there was no memory for its name
 abbrev pub TellsKeyIdAt : List ℕ → Result (List ℕ) PublishNo → List Exchange → Type 0
-TellsKeyIdAt name result exchanges = (answer : Result (List ℕ) SeedNo)
-    × TellsKeyIdBy name answer exchanges × IsToldAt name answer result
+TellsKeyIdAt name (Ok key_id) exchanges = (answer : Result (List ℕ) SeedNo)
+    × TellsKeyIdBy name answer exchanges × IsToldAt name answer (Ok key_id)
+TellsKeyIdAt name (Err why) exchanges = ((answer : Result (List ℕ) SeedNo)
+    × TellsKeyIdBy name answer exchanges × IsToldAt {T = List ℕ} name answer (Err why))
+    ⊎ ((why ≡ publishing.NoMemory) × (exchanges ≡ []))
 
 -- a seed before others, where those were made
 abbrev pub with_seed_first : SeedRow → Result (List SeedRow) PublishNo
@@ -60,7 +62,7 @@ with_seed_first row (Err why) = Err why
 
 module _ {D : Type 0} (left : D → Option (List ℕ)) (count : D → ℕ) where
   -- of the plugins of these names those whose names come after this one make a seed each, in the
-  -- order of the names' bytes, up to the first that makes none or whose seed finds no memory
+  -- order of the names' bytes, up to the first that makes none, or whose name or seed finds no memory
   pub data MakesSeedsBy (names : List (List ℕ)) : (passed : List ℕ) → D
       → Result (List SeedRow) PublishNo → D → List Exchange → Type 0 where
     all_made : {passed : List ℕ} {dice : D} → IsNextName names passed None
@@ -69,6 +71,8 @@ module _ {D : Type 0} (left : D → Option (List ℕ)) (count : D → ℕ) where
         (why : SeedNo) (refusal : PublishNo) → IsNextName names passed (Some name)
         → MakesSeedBy left count name dice (Err why) after exchanges → IsRefusalAt name why refusal
         → MakesSeedsBy names passed dice (Err refusal) after exchanges
+    no_name : {passed : List ℕ} {dice : D} (name : List ℕ) → IsNextName names passed (Some name)
+        → MakesSeedsBy names passed dice (Err publishing.NoMemory) dice []
     no_room : {passed : List ℕ} {dice after : D} {exchanges : List Exchange} (name : List ℕ)
         (row : SeedRow) → IsNextName names passed (Some name)
         → MakesSeedBy left count name dice (Ok row) after exchanges

@@ -1,6 +1,6 @@
 -- What publishing some entries makes: a seed for each plugin that they name, in the order of the
 -- names' bytes. The first refusal ends it.
-use Rattle.std.specs.Prelude.{◌≡◌, ℕ, ◌⊎◌, ◌↔◌, Bool, true, List, [], ◌++◌, map, length, All, Contains, Option, None, Some, Result, Ok, Err, ⊤}
+use Rattle.std.specs.Prelude.{◌≡◌, ℕ, ◌⊎◌, ◌↔◌, Bool, true, List, [], ◌++◌, map, length, All, Contains, Option, None, Some, Result, Ok, Err}
 use Rattle.std.specs.List.{flat_map}
 use Rattle.std.specs.List.Sorted.{IsStrictlySortedBy}
 use Rattle.std.specs.Ordering.{is_lt}
@@ -88,4 +88,5 @@ module _ {L : Type 0} (link : L → Link) (name : List ℕ) where
   TellsKeyIdOf olds (Err DiceFailed) news = ⊥
   TellsKeyIdOf olds (Err (Unhealthy other field text)) news =
       (other ≡ name) × AnswersKeyId olds (Err (seed.Unhealthy field text)) news
-  TellsKeyIdOf olds (Err NoMemory) news = ⊤
+  TellsKeyIdOf olds (Err NoMemory) news =
+      AnswersKeyId olds (Err seed.NoMemory) news ⊎ (news ≡ olds)

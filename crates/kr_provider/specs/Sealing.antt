@@ -4,6 +4,7 @@ use Rattle.std.specs.Option.{option_map, option_map_or}
 use Rattle.std.specs.Io.KnownBytes.{Consumes, Keeps}
 use Rattle.kr_base.specs.Faults.{Rose}
 use Rattle.kr_base.specs.Limits.{data_limit}
+use Rattle.kr_base.specs.Numbering.{next_number}
 use Rattle.kr_modes.specs.Cbc.{cbc}
 use Rattle.kr_modes.specs.Padding.{pad}
 use Rattle.kr_envelope.specs.declared.prefix.Kind.TheVariants as kind
@@ -67,17 +68,19 @@ value_size seeds (Kms name) size = option_map_or
     + length (canonical (frame_of (sealed_object row [] [] []))))) (seed_of name seeds) 0
 
 -- how a call's answer stands to that: the value is under the drawn bytes, each refusal comes
--- exactly where it applies, and nothing is drawn for a refusal or for want of memory
+-- exactly where it applies, and nothing is drawn for a refusal or for want of memory. A draw that
+-- failed counts once and is told: the bytes are drawn by one call
 module _ {D : Type 0} (left : D → Option (List ℕ)) (count : D → ℕ) where
   abbrev pub Seals : List SeedRow → Who → (path plain : List ℕ) → (old new : D)
       → Result (List ℕ) SealNo → Type 0
   Seals seeds who path plain old new (Ok value) = (drawn : List ℕ) × IsBytes (draw_size who) drawn
       × (sealed_by seeds who path plain drawn ≡ Some value) × Consumes (left old) (left new) drawn
-      × (who ≡ Identity → new ≡ old)
+      × (who ≡ Identity → new ≡ old) × (count new ≡ count old)
   Seals seeds who path plain old new (Err (TooLarge size)) = (size ≡ length plain)
       × (data_limit < length plain) × (new ≡ old)
   Seals seeds who path plain old new (Err LooksEncrypted) = (length plain ≤ data_limit)
       × (who ≡ Identity) × (is_marked plain ≡ true) × (new ≡ old)
   Seals seeds who path plain old new (Err DiceFailed) = (length plain ≤ data_limit)
       × (who ≢ Identity) × Rose (count old) (count new) × Keeps (left old) (left new)
+      × (count new ≡ next_number (count old))
   Seals seeds who path plain old new (Err NoMemory) = new ≡ old

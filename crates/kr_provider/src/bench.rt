@@ -384,8 +384,14 @@ fn plugin_key_id<L: Kms>(alloc: Global, name: &str, links: &mut Links<L>) -> Res
     ensures asked { AskedOnly L.link (name.now ∷ []) links.old links.new }
     ensures exchanged { Talk (Among L.step) links.old links.new (TellsKeyIdAt name.now result) }
 {
+    let Ok(own) = Text::copy(alloc, name) else {
+        return Err(PublishNo::NoMemory);
+    };
     match links.key_id(alloc, name) {
-        Ok(key_id) => Ok(key_id),
-        Err(why) => Err(plugin_refusal(alloc, name, why)),
+        Ok(key_id) => {
+            drop(own);
+            Ok(key_id)
+        }
+        Err(why) => Err(plugin_refusal(own, why)),
     }
 }

@@ -3,7 +3,7 @@ ghost use Rattle.std.specs.Prelude.{◌≡◌, ◌≤◌, [], false, Contains, I
 ghost use Rattle.kr_config.specs.Kept.{plugins_in, rows_of};
 ghost use Rattle.kr_base.specs.Walks.{Talk};
 ghost use Rattle.kr_provider.specs.AskedLinks.{Among, AskedOnly};
-ghost use Rattle.kr_provider.specs.Exchanges.{IsRefusalAt};
+ghost use Rattle.kr_provider.specs.Exchanges.{plugin_refusal};
 ghost use Rattle.kr_provider.specs.Names.{HasLinks, names_of};
 ghost use Rattle.kr_provider.specs.Publication.{names_plugin};
 ghost use Rattle.kr_provider.specs.inner.Making.{MakesAll, MakesAllBy, MakesAt, MakesOneBy};
@@ -58,7 +58,8 @@ pub(crate) fn make_seeds<L: Kms, D: Dice>(
     Ok(made)
 }
 
-/// A seed of the plugin of this name.
+/// A seed of the plugin of this name. The memory for its name, which a refusal tells, is taken before
+/// it is asked.
 fn make_one<L: Kms, D: Dice>(
     alloc: Global,
     name: &str,
@@ -73,29 +74,32 @@ fn make_one<L: Kms, D: Dice>(
     ensures exchanged { Talk (Among L.step) links.old links.new
         (MakesOneBy D.left D.count name.now dice.old result dice.new) }
 {
+    let Ok(own) = Text::copy(alloc, name) else {
+        return Err(PublishNo::NoMemory);
+    };
     match links.make_seed(alloc, name, dice) {
-        Ok(row) => Ok(row),
-        Err(why) => Err(plugin_refusal(alloc, name, why)),
+        Ok(row) => {
+            drop(own);
+            Ok(row)
+        }
+        Err(why) => Err(plugin_refusal(own, why)),
     }
 }
 
-/// What the refusal of the plugin of this name is, or that there is no memory for it.
-pub(crate) fn plugin_refusal(alloc: Global, name: &str, why: SeedNo) -> PublishNo
-    ensures { IsRefusalAt name.now why result }
+/// What the refusal of the plugin of this name is. It needs no memory.
+pub(crate) fn plugin_refusal(name: Text, why: SeedNo) -> PublishNo
+    ensures { result ≡ plugin_refusal name why }
 {
     match why {
-        SeedNo::Failed => match Text::copy(alloc, name) {
-            Ok(name) => PublishNo::PluginFailed { name },
-            Err(_) => PublishNo::NoMemory,
-        },
-        SeedNo::DiceFailed => PublishNo::DiceFailed,
-        SeedNo::Unhealthy { field, text } => match Text::copy(alloc, name) {
-            Ok(name) => PublishNo::Unhealthy { name, field, text },
-            Err(_) => {
-                drop(text);
-                PublishNo::NoMemory
-            }
-        },
-        SeedNo::NoMemory => PublishNo::NoMemory,
+        SeedNo::Failed => PublishNo::PluginFailed { name },
+        SeedNo::DiceFailed => {
+            drop(name);
+            PublishNo::DiceFailed
+        }
+        SeedNo::Unhealthy { field, text } => PublishNo::Unhealthy { name, field, text },
+        SeedNo::NoMemory => {
+            drop(name);
+            PublishNo::NoMemory
+        }
     }
 }

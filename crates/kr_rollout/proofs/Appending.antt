@@ -1,6 +1,6 @@
 -- One more line: the entries before it stay, and the history is legal and leads to the state with
 -- it.
-use Rattle.std.proofs.Common.{◌≡◌, ℕ, ◌<◌, ◌≤◌, ◌+◌, List, [], ◌∷◌, ◌++◌, length, map, Option, None, Some, IfSome, refl, sym, ap, subst, ◌∙◌, arith, length-append}
+use Rattle.std.proofs.Common.{◌≡◌, ℕ, ◌<◌, ◌≤◌, ◌+◌, Bool, List, [], ◌∷◌, ◌++◌, length, map, Option, None, Some, IfSome, refl, sym, ap, subst, ◌∙◌, arith, length-append}
 use Rattle.std.specs.Prelude.{⊤}
 use Rattle.std.proofs.lemmas.List.{map-append}
 use Rattle.kr_store.specs.declared.rows.LogRow.{LogRow}
@@ -13,8 +13,8 @@ use Rattle.kr_rollout.specs.declared.opening.Opening.{Opening}
 use Rattle.kr_rollout.specs.Entries.{entry_of, generation_named_in, revision_in, revision_replaced_in, HasWhatItNames, seat_of}
 use Rattle.kr_rollout.specs.States.{State}
 use Rattle.kr_rollout.specs.Openings.{start_of}
-use Rattle.kr_rollout.specs.Steps.{after, new_generations, new_rows, IsStep}
-use Rattle.kr_rollout.specs.Histories.{state_from, state_of, IsRun, IsLegal}
+use Rattle.kr_rollout.specs.Steps.{after, new_generations, new_rows, tears, IsStep}
+use Rattle.kr_rollout.specs.Histories.{ends_torn, state_from, state_of, torn_from, IsRun, IsLegal}
 use Rattle.kr_rollout.specs.Cores.{CoreState, Applies}
 use Rattle.kr_rollout.specs.Laws.{FrontIsLegal}
 use Rattle.kr_base.specs.Lines.{of_seat}
@@ -107,6 +107,11 @@ pub state_more : (st : State) (history : List Entry) (e : Entry)
 state_more st [] e = refl
 state_more st (first ∷ history) e = state_more (after st first) history e
 
+pub torn_more : (torn : Bool) (history : List Entry) (e : Entry)
+    → torn_from torn (history ++ e ∷ []) ≡ tears e.line.gave (torn_from torn history)
+torn_more torn [] e = refl
+torn_more torn (first ∷ history) e = torn_more (tears first.line.gave torn) history e
+
 pub legal_more : (o : Opening) (history : List Entry) (e : Entry) → IsLegal o history
     → IsStep o (state_of o history) e → IsLegal o (history ++ e ∷ [])
 legal_more o history e l s = record {
@@ -116,18 +121,18 @@ legal_more o history e l s = record {
 }
 
 -- what a core's lines name is there
-core_reaches : (o : Opening) (st : State) (lines : List Line) (spare room : ℕ)
-    → IsCore o st lines spare room → AllReach st.rows st.generations lines
-core_reaches o st lines spare room c =
+core_reaches : (o : Opening) (st : State) (torn : Bool) (lines : List Line) (spare room : ℕ)
+    → IsCore o st torn lines spare room → AllReach st.rows st.generations lines
+core_reaches o st torn lines spare room c =
     subst (λ (s : State). AllReach s.rows s.generations lines) (sym c.leads)
     (all_reach o (start_of o) st.rows st.generations lines c.legal.runs)
 
-pub entries_more : (o : Opening) (st next : State) (lines : List Line) (line : Line)
-    (spare room : ℕ) → IsCore o st lines spare room
+pub entries_more : (o : Opening) (st next : State) (torn : Bool) (lines : List Line) (line : Line)
+    (spare room : ℕ) → IsCore o st torn lines spare room
     → next ≡ after st (entry_of next.rows next.generations line)
     → entries_by next (lines ++ line ∷ []) ≡ entries_by st lines ++ entry_of next.rows
     next.generations line ∷ []
-entries_more o st next lines line spare room c is =
+entries_more o st next torn lines line spare room c is =
     let e = entry_of next.rows next.generations line in
     let r : next.rows ≡ st.rows ++ new_rows line.gave line.did e.row =
     ap (λ (s : State). s.rows) is in
@@ -137,24 +142,27 @@ entries_more o st next lines line spare room c is =
     ∙ ap (λ es. es ++ e ∷ []) (
     (λ i. map (entry_of (r i) (g i)) lines)
     ∙ entries_stay st.rows (new_rows line.gave line.did e.row) st.generations
-    (new_generations line.gave line.did) lines (core_reaches o st lines spare room c)
+    (new_generations line.gave line.did) lines (core_reaches o st torn lines spare room c)
     )
 
-pub core_more : (o : Opening) (st next : State) (lines : List Line) (line : Line)
-    (spare left room : ℕ) → IsCore o st lines spare room
+pub core_more : (o : Opening) (st next : State) (torn tail : Bool) (lines : List Line)
+    (line : Line) (spare left room : ℕ) → IsCore o st torn lines spare room
     → next ≡ after st (entry_of next.rows next.generations line)
     → IsStep o st (entry_of next.rows next.generations line)
     → KeepsBudgets o (entries_by st lines ++ entry_of next.rows next.generations line ∷ [])
-    → left + 1 ≡ spare → IsCore o next (lines ++ line ∷ []) left room
-core_more o st next lines line spare left room c is step budgets l =
+    → tail ≡ tears line.gave torn
+    → left + 1 ≡ spare → IsCore o next tail (lines ++ line ∷ []) left room
+core_more o st next torn tail lines line spare left room c is step budgets tail_is l =
     let e = entry_of next.rows next.generations line in
     let h = entries_by st lines in
-    let same = entries_more o st next lines line spare room c is in
+    let same = entries_more o st next torn lines line spare room c is in
     let here : IsStep o (state_of o h) e = subst (λ (s : State). IsStep o s e) c.leads step in
     record {
       legal = subst (IsLegal o) (sym same) (legal_more o h e c.legal here);
       leads = is ∙ ap (λ (s : State). after s e) c.leads ∙ sym (state_more (start_of o) h e)
           ∙ ap (state_of o) (sym same);
+      ends = tail_is ∙ ap (tears line.gave) c.ends ∙ sym (torn_more o.torn h e)
+          ∙ ap (ends_torn o) (sym same);
       budgets = subst (KeepsBudgets o) (sym same) budgets;
       room_in = omega (arith, c.room_in, length-append lines (line ∷ []));
     }
@@ -182,20 +190,20 @@ module _ (old : CoreState) (before now : RolloutState) (lines more : List Line) 
       history = entries_by before.state lines;
       room = room;
     } ≡ old)
-    (core : IsCore before.opening before.state lines spare room)
+    (core : IsCore before.opening before.state before.torn lines spare room)
     (serves : Serves before seat event answer line now)
     (pushed : more ≡ lines ++ line ∷ []) where
   pub core_after : MayAsk before.opening seat
       (of_seat seat_of seat (entries_by before.state lines)) event
-      → left + 1 ≡ spare → IsCore now.opening now.state more left room
+      → left + 1 ≡ spare → IsCore now.opening now.state now.torn more left room
   core_after may l =
-      subst (λ ls. IsCore now.opening now.state ls left room) (sym pushed)
-      (subst (λ o. IsCore o now.state (lines ++ line ∷ []) left room) (sym serves.opening)
-      (core_more before.opening before.state now.state lines line spare left room core serves.state
-      serves.step
+      subst (λ ls. IsCore now.opening now.state now.torn ls left room) (sym pushed)
+      (subst (λ o. IsCore o now.state now.torn (lines ++ line ∷ []) left room) (sym serves.opening)
+      (core_more before.opening before.state now.state before.torn now.torn lines line spare left room
+      core serves.state serves.step
       (budgets_more before.opening (entries_by before.state lines)
       (entry_of now.state.rows now.state.generations line) seat event core.budgets may
-      serves.records.seat_is serves.records.did_is) l))
+      serves.records.seat_is serves.records.did_is) serves.torn l))
 
   pub applied : Applies old seat event answer
       (record { opening = now.opening; history = entries_by now.state more; room = room })
@@ -205,7 +213,7 @@ module _ (old : CoreState) (before now : RolloutState) (lines more : List Line) 
       (record {
         entry = entry_of now.state.rows now.state.generations line;
         new_is = (let h = ap (entries_by now.state) pushed
-            ∙ entries_more before.opening before.state now.state lines line spare room core
+            ∙ entries_more before.opening before.state now.state before.torn lines line spare room core
             serves.state in
             (λ i. record { opening = serves.opening i; history = h i; room = room }));
         step = subst (λ (s : State). IsStep before.opening s

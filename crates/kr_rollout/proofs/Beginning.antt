@@ -275,11 +275,13 @@ module _ (store : Kept) (rs : List (Option Publication)) (names : List (List ℕ
   opened : ◌≡◌ {A = RolloutState} (record {
     opening = opening_of store first rs names kept count torn;
     state = state_with store b generations current held;
+    torn = store.torn;
   })
       (record {
         opening = opening_by store rs names reloads;
         state =
             start_of (opening_by store rs names reloads);
+        torn = store.torn;
       })
   opened =
       let r : take first store.rows ≡ store.rows = ap (λ n. take n store.rows) first_is
@@ -306,6 +308,7 @@ module _ (store : Kept) (rs : List (Option Publication)) (names : List (List ℕ
           rows = store.rows;
           count = store.count;
         };
+        torn = store.torn;
       })
 
   pub opened_rollout : length reloads ≤ 64 → IsRollout (opening_of store first rs names kept count torn)
@@ -322,9 +325,11 @@ module _ (store : Kept) (rs : List (Option Publication)) (names : List (List ℕ
       × ◌≡◌ {A = RolloutState} (record {
         opening = opening_of store first rs names kept count torn;
         state = state_with store b generations current held;
+        torn = store.torn;
       }) (record {
         opening = opening_by store rs names reloads;
         state = start_of (opening_by store rs names reloads);
+        torn = store.torn;
       })
   starts rows in_first among published = (
     start_legal (opening_by store rs names reloads) rows in_first

@@ -292,20 +292,23 @@ board_room o st kept k = ap (λ (b : BoardState). b.room) k.board_is
 
 pub taken_view : (o : Opening) (store : Kept) (kept next : BoardState) (gs later : List Generation)
     (current held : List (Option ℕ)) (replica number : ℕ) (p : Publication) (old : RolloutState)
-    → record { opening = o; state = state_with store kept gs current held } ≡ old
+    → record { opening = o; state = state_with store kept gs current held; torn = store.torn } ≡ old
     → next.needs ≡ kept.needs
     → later ≡ gs ++ record { replica = replica; published = p } ∷ [] → number ≡ length gs
     → ◌≡◌ {A = RolloutState} (record {
       opening = o;
       state = state_with store next later (slice_set current replica (Some number)) held;
+      torn = store.torn;
     }) (with_generation old replica p)
 taken_view o store kept next gs later current held replica number p old view needs later_is
     number_is =
     let path : ◌≡◌ {A = RolloutState} (record {
       opening = o;
       state = state_with store next later (slice_set current replica (Some number)) held;
+      torn = store.torn;
     }) (with_generation
-    (record { opening = o; state = state_with store kept gs current held }) replica p) =
+    (record { opening = o; state = state_with store kept gs current held; torn = store.torn })
+    replica p) =
     (λ i. record {
       opening = o;
       state = record {
@@ -316,6 +319,7 @@ taken_view o store kept next gs later current held replica number p old view nee
         rows = store.rows;
         count = store.count;
       };
+      torn = store.torn;
     }) in
     path ∙ ap (λ (c : RolloutState). with_generation c replica p) view
 

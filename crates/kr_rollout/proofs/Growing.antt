@@ -1,8 +1,6 @@
 -- What holds of a rollout holds after a write to the store.
-use Rattle.std.proofs.Common.{◌≡◌, ℕ, ◌≤◌, ◌+◌, ◌++◌, Bool, List, [], ◌∷◌, length, Option, None, Some, Result, Ok, Err, inr, sym, ap, subst, ◌∙◌, arith, append-nil, length-append}
+use Rattle.std.proofs.Common.{◌≡◌, ℕ, ◌≤◌, ◌+◌, ◌++◌, Bool, List, [], ◌∷◌, length, Option, None, Some, Result, Ok, Err, sym, ap, ◌∙◌, arith, append-nil, length-append}
 use Rattle.std.specs.Prelude.{sum}
-use Rattle.std.proofs.lemmas.Bool.{both_ways}
-use Rattle.kr_base.proofs.Counting.{Rose-later}
 use Rattle.kr_store.specs.declared.answers.PutNo.{PutNo}
 use Rattle.kr_store.specs.declared.answers.PutNo.TheVariants as no
 use Rattle.kr_store.specs.declared.rows.LogRow.{LogRow}
@@ -14,77 +12,9 @@ use Rattle.kr_judge.specs.declared.need.Need.{Need}
 use Rattle.kr_judge.specs.Boards.{BoardState, set_need}
 use Rattle.kr_opening.specs.declared.generation.Generation.{Generation}
 use Rattle.kr_opening.specs.Checks.{written_check}
-use Rattle.kr_rollout.specs.inner.Rollouts.{opening_of, state_with, IsRollout, KeepsFaults}
+use Rattle.kr_rollout.specs.inner.Rollouts.{opening_of, state_with, IsRollout}
 use Rattle.kr_rollout.specs.inner.Writing.{needs_without, sealed_over, StaysBy, PutsBy, ReplacesBy}
 use Rattle.kr_rollout.proofs.Storing.{same_rollout}
-
--- ---- faults
-
-wrote_faults : (torn : Bool) (count : ℕ) (store next : Kept) (row : LogRow) (revision : ℕ)
-    → Wrote store next row revision → KeepsFaults torn count store → KeepsFaults torn count next
-wrote_faults torn count store next row revision w k = record {
-  later = omega (arith, k.later, w.later);
-  torn_since = λ e. absurd (both_ways next.torn w.whole e);
-}
-
-failed_faults : (torn : Bool) (count : ℕ) (store next : Kept) (row : LogRow)
-    → Fails store next row → KeepsFaults torn count store → KeepsFaults torn count next
-failed_faults torn count store next row f k = record {
-  later = omega (arith, k.later, f.later);
-  torn_since = λ e. inr (Rose-later count store.count next.count k.later f.rose);
-}
-
-same_faults : (torn : Bool) (count : ℕ) (store next : Kept) → next ≡ store
-    → KeepsFaults torn count store → KeepsFaults torn count next
-same_faults torn count store next e k = subst (KeepsFaults torn count) (sym e) k
-
-faults_put : (torn : Bool) (count : ℕ) (store next : Kept) (row : LogRow)
-    (result : Result ℕ PutNo) → Puts store next row result → KeepsFaults torn count store
-    → KeepsFaults torn count next
-faults_put torn count store next row (Ok revision) w k =
-    wrote_faults torn count store next row revision w k
-faults_put torn count store next row (Err no.Failed) f k =
-    failed_faults torn count store next row f k
-faults_put torn count store next row (Err (no.Full needed)) r k =
-    same_faults torn count store next r.0 k
-faults_put torn count store next row (Err (no.Changed last)) r k = absurd r
-faults_put torn count store next row (Err no.NoMemory) r k = same_faults torn count store next r k
-
-faults_delete : (torn : Bool) (count : ℕ) (store next : Kept) (path : List ℕ)
-    (result : Result (Option ℕ) PutNo) → Deletes store next path result
-    → KeepsFaults torn count store → KeepsFaults torn count next
-faults_delete torn count store next path (Ok None) d k = same_faults torn count store next d.1 k
-faults_delete torn count store next path (Ok (Some revision)) d k =
-    wrote_faults torn count store next (delete_of path) revision d.1 k
-faults_delete torn count store next path (Err no.Failed) d k =
-    failed_faults torn count store next (delete_of path) d.1 k
-faults_delete torn count store next path (Err (no.Full needed)) d k =
-    same_faults torn count store next d.1.0 k
-faults_delete torn count store next path (Err (no.Changed last)) d k = absurd d
-faults_delete torn count store next path (Err no.NoMemory) d k =
-    same_faults torn count store next d k
-
-stays_faults : (p : Publication) (torn : Bool) (count : ℕ) (store next : Kept) (path : List ℕ)
-    (revision : ℕ) (stored : List ℕ) (why : PutNo) → StaysBy p store next path revision stored why
-    → KeepsFaults torn count store → KeepsFaults torn count next
-stays_faults p torn count store next path revision stored no.NoMemory r k =
-    same_faults torn count store next r k
-stays_faults p torn count store next path revision stored no.Failed r k =
-    failed_faults torn count store next (sealed_over store p r.0 path stored) r.2 k
-stays_faults p torn count store next path revision stored (no.Full needed) r k =
-    same_faults torn count store next r.2.0 k
-stays_faults p torn count store next path revision stored (no.Changed to) r k =
-    same_faults torn count store next r.1 k
-
-faults_replace : (p : Publication) (torn : Bool) (count : ℕ) (store next : Kept)
-    (path : List ℕ) (revision : ℕ) (stored : List ℕ) (kept later : BoardState)
-    (result : Result ℕ PutNo)
-    → ReplacesBy p store next path revision stored kept later result
-    → KeepsFaults torn count store → KeepsFaults torn count next
-faults_replace p torn count store next path revision stored kept later (Ok to) r k =
-    wrote_faults torn count store next (sealed_over store p r.0 path stored) to r.2 k
-faults_replace p torn count store next path revision stored kept later (Err why) r k =
-    stays_faults p torn count store next path revision stored why r.0 k
 
 -- ---- rows
 
@@ -166,16 +96,15 @@ abbrev HoldsOver : Kept → BoardState → List Generation → (current held : L
 HoldsOver store kept generations current held first rs names reloads count torn spare =
     IsRollout (opening_of store first rs names reloads count torn)
     (state_with store kept generations current held) kept × (first ≤ length store.rows)
-    × (length rs + sum reloads ≤ length generations + spare) × KeepsFaults torn count store
+    × (length rs + sum reloads ≤ length generations + spare)
 
 module _ (store next : Kept) (kept later : BoardState) {generations : List Generation}
     {current held : List (Option ℕ)} (first : ℕ) {rs : List (Option Publication)}
     {names : List (List ℕ)} {reloads : List ℕ} {count : ℕ} {torn : Bool} (spare : ℕ)
     (k : HoldsOver store kept generations current held first rs names reloads count torn spare) where
   grown_by : (needs : List Need) → Grows store next → later ≡ record kept { needs = needs }
-      → KeepsFaults torn count next
       → HoldsOver next later generations current held first rs names reloads count torn spare
-  grown_by needs g later_is faults = (
+  grown_by needs g later_is = (
     same_rollout store next kept later generations current held first rs names reloads count torn
         g.0 needs k.1 g.1 g.2 g.3 later_is k.0,
     omega (
@@ -185,7 +114,6 @@ module _ (store next : Kept) (kept later : BoardState) {generations : List Gener
       length-append store.rows g.0,
     ),
     k.2,
-    faults,
   )
 
   pub grown_put : (p : Publication) (path resource stored : List ℕ) (result : Result ℕ PutNo)
@@ -194,7 +122,6 @@ module _ (store next : Kept) (kept later : BoardState) {generations : List Gener
   grown_put p path resource stored result w =
       let row = put_of path resource stored (written_check store.format p resource) in
       grown_by _ (puts_grow store next row result w.0) w.1
-      (faults_put torn count store next row result w.0 k.3)
 
   pub grown_delete : (path : List ℕ) (result : Result (Option ℕ) PutNo)
       → Deletes store next path result
@@ -202,7 +129,7 @@ module _ (store next : Kept) (kept later : BoardState) {generations : List Gener
       → HoldsOver next later generations current held first rs names reloads count torn spare
   grown_delete path result d later_is =
       grown_by (needs_without result path kept.needs) (deletes_grow store next path result d)
-      later_is (faults_delete torn count store next path result d k.3)
+      later_is
 
   pub grown_replace : (p : Publication) (path : List ℕ) (revision : ℕ) (stored : List ℕ)
       (result : Result ℕ PutNo)
@@ -211,4 +138,3 @@ module _ (store next : Kept) (kept later : BoardState) {generations : List Gener
   grown_replace p path revision stored result r =
       let n = replaced_needs p store next path revision stored kept later result r in
       grown_by n.0 (replaces_grow p store next path revision stored kept later result r) n.1
-      (faults_replace p torn count store next path revision stored kept later result r k.3)

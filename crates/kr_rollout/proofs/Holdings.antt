@@ -1,5 +1,5 @@
 -- What a seat's own entries say that it holds is what the state says.
-use Rattle.std.proofs.Common.{◌≡◌, ℕ, zero, suc, ◌<◌, ◌⊎◌, cond, List, [], ◌∷◌, ◌++◌, length, get_or, replicate, Option, None, Some, IsSome, IfSome, refl, sym, ap, subst, ◌∙◌, arith, inl, inr, length-append}
+use Rattle.std.proofs.Common.{◌≡◌, ℕ, zero, suc, ◌<◌, ◌⊎◌, cond, Bool, List, [], ◌∷◌, ◌++◌, length, get_or, replicate, Option, None, Some, IsSome, IfSome, refl, sym, ap, subst, ◌∙◌, arith, inl, inr, length-append}
 use Rattle.std.specs.List.{slice_get}
 use Rattle.std.specs.Option.{option_map}
 use Rattle.std.proofs.lemmas.Bool.{cases_eq, eq-eqb, ne_eqb}
@@ -253,11 +253,12 @@ something_held : (generations : List Generation) (number : Option ℕ)
 something_held generations None s = s
 something_held generations (Some n) s = refl
 
-pub may_serve : (o : Opening) (st : State) (history : List Entry) (seat : ℕ) (asked : Event)
+pub may_serve : (o : Opening) (st : State) (torn : Bool) (history : List Entry) (seat : ℕ)
+    (asked : Event)
     → IsLegal o history → KeepsBudgets o history → st ≡ state_of o history
     → MayAsk o seat (of_seat seat_of seat history) asked
-    → MayServe (record { opening = o; state = st }) seat asked
-may_serve o st history seat asked l budgets is may = by asked may.allowed
+    → MayServe (record { opening = o; state = st; torn = torn }) seat asked
+may_serve o st torn history seat asked l budgets is may = by asked may.allowed
   where
     k : AreNumbers st.held st.generations
     k = subst (λ (s : State). AreNumbers s.held s.generations) (sym is) (numbers_of o history l)
@@ -275,7 +276,7 @@ may_serve o st history seat asked l budgets is may = by asked may.allowed
         (room_for o history seat l budgets may.seat_in m)
 
     by : (asked : Event) → Allows o seat (of_seat seat_of seat history) asked
-        → MayServe (record { opening = o; state = st }) seat asked
+        → MayServe (record { opening = o; state = st; torn = torn }) seat asked
     by (event.Put path resource plain stored) a =
         let q = pair_parts st.generations (held_by st seat) a.2 (sym same ∙ a.3) in
         (a.0, a.1, a.2.0, a.2.1, q.0, q.1, a.4)

@@ -19,7 +19,7 @@ use Rattle.kr_rollout.specs.declared.membership.Bringing.TheVariants.{Reload, Jo
 use Rattle.kr_rollout.specs.States.{State, held_by, verdict_on}
 use Rattle.kr_rollout.specs.Answers.{IsAnswer, IsRefusedByVerdict}
 use Rattle.kr_rollout.specs.Entries.{generation_adopted_in, revision_in, revision_replaced_in, HasWhatItNames}
-use Rattle.kr_rollout.specs.Steps.{after, HidesNoFault, KeepsRules}
+use Rattle.kr_rollout.specs.Steps.{after, tears, HidesNoFault, KeepsRules}
 use Rattle.kr_rollout.specs.Writes.{Writes}
 use Rattle.kr_rollout.specs.Callers.{did_of, gave_of, ShowsEntry, StoresIt}
 use Rattle.kr_rollout.specs.inner.Rollouts.{RolloutState, IsRollout, line_now, MayServe, Serves}
@@ -81,6 +81,7 @@ module _ (old : RolloutState) (kept : BoardState) (seat replica : ℕ) (p : Publ
       → Writes (gave_of given) old.opening old.state
       (entry_then (with_generation old replica p) seat asked given)
       → HidesNoFault (gave_of given) old.state.count old.state.count
+      → old.torn ≡ tears (gave_of given) old.torn
       → revision_in (gave_of given) ≡ 0 → revision_replaced_in (did_of asked) ≡ 0
       → generation_adopted_in (gave_of given) ≡ None
       → ShowsEntry given (entry_then (with_generation old replica p) seat asked given)
@@ -88,9 +89,9 @@ module _ (old : RolloutState) (kept : BoardState) (seat replica : ℕ) (p : Publ
       → Serves old seat asked given
       (line_now (with_generation old replica p).state seat (did_of asked) (gave_of given))
       (with_generation old replica p)
-  taken_up asked given rules state is writes faults none before adopted shows stores =
+  taken_up asked given rules state is writes faults tail none before adopted shows stores =
       stepped old (with_generation old replica p) seat asked given refl state l refl rules is writes
-      (omega arith) faults (record {
+      (omega arith) faults tail (record {
         row = omega (arith, none);
         replaced = omega (arith, before);
         generation = names_any (with_generation old replica p).state.generations
@@ -107,11 +108,11 @@ module _ (old : RolloutState) (kept : BoardState) (seat replica : ℕ) (p : Publ
   bringing_serves (Reload expect) may is =
       taken_up (event.Reload replica p expect) (answer.Reloaded (length old.state.generations))
       (may.0, (published, may.1)) (is_after old replica p) (is, (passes, refl)) tt refl refl refl refl
-      tt tt
+      refl tt tt
   bringing_serves Join may is =
       taken_up (event.Join replica p) (answer.Joined (length old.state.generations))
       (may.0, (published, may.1)) (is_after old replica p) (is, (passes, refl)) tt refl refl refl refl
-      tt tt
+      refl tt tt
 
 -- the same as the caller sees it
 module _ (here old new : RolloutState) (kept : BoardState) (seat replica number : ℕ)

@@ -1,5 +1,5 @@
 -- Serving an event: that its line's entry is a step.
-use Rattle.std.proofs.Common.{◌≡◌, ℕ, ◌<◌, ◌≤◌, ◌++◌, List, [], length, Option, None, Some, IsSome, IfSome, Result, Ok, Err, IfOk, refl, sym, ap, subst, ◌∙◌, arith, append-nil}
+use Rattle.std.proofs.Common.{◌≡◌, ℕ, ◌<◌, ◌≤◌, ◌++◌, Bool, List, [], length, Option, None, Some, IsSome, IfSome, Result, Ok, Err, IfOk, refl, sym, ap, subst, ◌∙◌, arith, append-nil}
 use Rattle.std.specs.Prelude.{⊤, slice_set}
 use Rattle.kr_base.specs.declared.errors.NoMemory.{NoMemory}
 use Rattle.kr_store.specs.declared.rows.LogRow.{LogRow}
@@ -16,7 +16,7 @@ use Rattle.kr_opening.specs.declared.generation.Generation.{Generation}
 use Rattle.kr_rollout.specs.declared.line.Did.{Did}
 use Rattle.kr_rollout.specs.declared.line.Did.TheVariants.{Adopt, Fetch, After}
 use Rattle.kr_rollout.specs.declared.line.Gave.{Gave}
-use Rattle.kr_rollout.specs.declared.line.Gave.TheVariants.{Adopted, Found, Absent, Refused, Moved, Present, Gone, StoreFailed, Nothing}
+use Rattle.kr_rollout.specs.declared.line.Gave.TheVariants.{Adopted, Found, Absent, Written, Refused, Moved, Present, Gone, StoreFailed, Nothing}
 use Rattle.kr_rollout.specs.declared.line.Line.{Line}
 use Rattle.kr_rollout.specs.declared.opening.Entry.{Entry}
 use Rattle.kr_rollout.specs.declared.opening.Opening.{Opening}
@@ -24,7 +24,7 @@ use Rattle.kr_rollout.specs.Entries.{entry_of, published_at, generation_named_by
 use Rattle.kr_rollout.specs.States.{State, number_at, current_of, held_by}
 use Rattle.kr_rollout.specs.Answers.{IsAnswer, IsFetchAnswer, FindsNext}
 use Rattle.kr_rollout.specs.Writes.{Writes}
-use Rattle.kr_rollout.specs.Steps.{after, HidesNoFault, IsStep, KeepsRules}
+use Rattle.kr_rollout.specs.Steps.{after, tears, HidesNoFault, IsStep, KeepsRules}
 use Rattle.kr_rollout.specs.Callers.{did_of, gave_of, Records, ShowsEntry, StoresIt}
 use Rattle.kr_rollout.specs.inner.Rollouts.{RolloutState, IsRollout, AreNumbers, line_now, state_with, MayServe, Serves}
 use Rattle.kr_rollout.specs.inner.Telling.{found_as}
@@ -108,6 +108,12 @@ none_hidden : (gave : Gave) (count : ℕ) → IsStill gave → HidesNoFault gave
 none_hidden StoreFailed count s = absurd s
 none_hidden other count s = refl
 
+-- nor a write that failed, and it tells of none
+tears_nothing : (gave : Gave) (torn : Bool) → IsStill gave → torn ≡ tears gave torn
+tears_nothing StoreFailed torn s = absurd s
+tears_nothing (Written revision) torn s = absurd s
+tears_nothing other torn s = refl
+
 -- a step to a state with the same rows and generations
 step_to : (o : Opening) (st next : State) (seat : ℕ) (did : Did) (gave : Gave)
     → seat < length o.reloads → KeepsRules did o
@@ -166,6 +172,7 @@ told c seat event answer s l rules is reach shows =
           (none_hidden (gave_of answer) c.state.count s);
       records = recorded c.state.rows c.state.generations c.state seat event answer shows
           (stores_still event answer _ s);
+      torn = tears_nothing (gave_of answer) c.torn s;
     }
 
 -- a held generation is one of those that are there
@@ -234,6 +241,7 @@ holds_now c seat number = record {
   opening = c.opening;
   state =
       record c.state { held = slice_set c.state.held seat number };
+  torn = c.torn;
 }
 
 pub adopted : (c : RolloutState) (kept : BoardState) (seat replica number : ℕ) (p : Publication)
@@ -263,6 +271,7 @@ adopted c kept seat replica number p k l may is there =
             ∙ there;
         stores = tt;
       };
+      torn = refl;
     }
 
 -- what a search came to, as the caller sees it
@@ -315,7 +324,11 @@ pub adopted_at : (o : Opening) (store : Kept) (kept next : BoardState)
     (generations : List Generation) (current held : List (Option ℕ)) (old : RolloutState) (line : Line)
     (seat replica number : ℕ) (p : Publication)
     → IsRollout o (state_with store kept generations current held) kept
-    → record { opening = o; state = state_with store kept generations current held } ≡ old
+    → record {
+      opening = o;
+      state = state_with store kept generations current held;
+      torn = store.torn;
+    } ≡ old
     → next ≡ with_board kept held_more number → seat < length old.opening.reloads
     → MayServe old seat (event.Adopt replica)
     → number_at current replica ≡ Some number → published_at generations (Some number) ≡ Some p
@@ -325,6 +338,7 @@ pub adopted_at : (o : Opening) (store : Kept) (kept next : BoardState)
       opening = o;
       state = state_with store next generations current
           (slice_set held seat (Some number));
+      torn = store.torn;
     })
 adopted_at o store kept next generations current held old line seat replica number p k view e l may
     is there line_is =
@@ -332,6 +346,7 @@ adopted_at o store kept next generations current held old line seat replica numb
       opening = o;
       state =
           state_with store kept generations current held;
+      torn = store.torn;
     } in
     let l2 = subst (λ (c : RolloutState). seat < length c.opening.reloads) (sym view) l in
     let may2 = subst (λ (c : RolloutState). MayServe c seat (event.Adopt replica)) (sym view) may in
@@ -340,12 +355,14 @@ adopted_at o store kept next generations current held old line seat replica numb
       opening = o;
       state =
           state_with store next generations current (slice_set held seat (Some number));
+      torn = store.torn;
     }
     ≡ holds_now here seat (Some number) =
     ap (λ (b : BoardState). record {
       opening = o;
       state =
           state_with store b generations current (slice_set held seat (Some number));
+      torn = store.torn;
     }) e in
     let lines : line ≡ line_now here.state seat (Adopt replica) (Adopted number) = line_is
     ∙ ap (λ (c : RolloutState). line_now c.state seat (Adopt replica) (Adopted number)) (sym view) in
@@ -354,12 +371,14 @@ adopted_at o store kept next generations current held old line seat replica numb
       opening = o;
       state = state_with store next generations current
           (slice_set held seat (Some number));
+      torn = store.torn;
     })) view
     (subst (λ x. Serves here seat (event.Adopt replica) (answer.Adopted number p) x
     (record {
       opening = o;
       state = state_with store next generations current
           (slice_set held seat (Some number));
+      torn = store.torn;
     })) (sym lines)
     (subst (λ x. Serves here seat (event.Adopt replica) (answer.Adopted number p)
     (line_now here.state seat (Adopt replica) (Adopted number)) x) (sym now) base))

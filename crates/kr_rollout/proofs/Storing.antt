@@ -31,7 +31,7 @@ use Rattle.kr_rollout.specs.Openings.{board}
 use Rattle.kr_rollout.specs.Answers.{IsAnswer}
 use Rattle.kr_opening.specs.Checks.{written_check}
 use Rattle.kr_rollout.specs.Writes.{Writes, WouldWrite}
-use Rattle.kr_rollout.specs.Steps.{after, need_written, put_need, put_row, row_written_by, HidesNoFault, KeepsRules}
+use Rattle.kr_rollout.specs.Steps.{after, need_written, put_need, put_row, row_written_by, tears, HidesNoFault, KeepsRules}
 use Rattle.kr_rollout.specs.Callers.{did_of, gave_of, IsResealing, ShowsEntry, StoresIt}
 use Rattle.kr_rollout.specs.inner.Rollouts.{RolloutState, opening_of, state_with, IsRollout, line_now, Serves}
 use Rattle.kr_rollout.specs.inner.Writing.{written_as, deleted_as, needs_with, needs_without, sealed_over, ReplacesBy}
@@ -53,12 +53,15 @@ pub stepped : (c next : RolloutState) (seat : ℕ) (asked : Event) (given : Answ
     → IsAnswer (did_of asked) (gave_of given) c.state (held_by next.state seat)
     → Writes (gave_of given) c.opening c.state (entry_then next seat asked given)
     → c.state.count ≤ next.state.count
-    → HidesNoFault (gave_of given) c.state.count next.state.count → HasWhatItNames next.state.rows next.state.generations
+    → HidesNoFault (gave_of given) c.state.count next.state.count
+    → next.torn ≡ tears (gave_of given) c.torn
+    → HasWhatItNames next.state.rows next.state.generations
     (line_now next.state seat (did_of asked) (gave_of given))
     → ShowsEntry given (entry_then next seat asked given)
     → StoresIt asked given (entry_then next seat asked given)
     → Serves c seat asked given (line_now next.state seat (did_of asked) (gave_of given)) next
-stepped c next seat asked given opening state l held rules is writes counted faults reach shows stores =
+stepped c next seat asked given opening state l held rules is writes counted faults tail reach shows
+    stores =
     record {
       opening = opening;
       state = state;
@@ -77,6 +80,7 @@ stepped c next seat asked given opening state l held rules is writes counted fau
       };
       records = recorded next.state.rows next.state.generations next.state seat asked given shows
           stores;
+      torn = tail;
     }
 
 -- the same for the course, the answer and the line that the caller sees
@@ -139,6 +143,7 @@ module _ (store next : Kept) (kept later : BoardState) (generations : List Gener
     opening = opening_of store first rs names reloads count torn;
     state =
         state_with store kept generations current held;
+    torn = store.torn;
   }
 
   abbrev soon : RolloutState
@@ -146,6 +151,7 @@ module _ (store next : Kept) (kept later : BoardState) (generations : List Gener
     opening = opening_of next first rs names reloads count torn;
     state =
         state_with next later generations current held;
+    torn = next.torn;
   }
 
   -- the opening stays
@@ -245,15 +251,17 @@ module _ (store next : Kept) (kept later : BoardState) (generations : List Gener
           → IsAnswer (did_of asked) (gave_of given) here.state (number_at held seat)
           → Writes (gave_of given) here.opening here.state (entry_then soon seat asked given)
           → store.count ≤ next.count → HidesNoFault (gave_of given) store.count next.count
+          → next.torn ≡ tears (gave_of given) store.torn
           → revision_in (gave_of given) ≡ 0 → generation_adopted_in (gave_of given) ≡ None
           → ShowsEntry given (entry_then soon seat asked given)
           → StoresIt asked given (entry_then soon seat asked given)
           → Serves here seat asked given (line_now soon.state seat (did_of asked) (gave_of given))
           soon
-      unwritten given rows limit format state is writes counted faults none adopted shows stores =
+      unwritten given rows limit format state is writes counted faults tail none adopted shows
+          stores =
           stepped here soon seat asked given
           (same_opening [] room (rows ∙ sym (append-nil store.rows)) limit format) state l refl
-          rules is writes counted faults (record {
+          rules is writes counted faults tail (record {
             row = omega (arith, none);
             replaced = omega (arith, before, ap (λ (x : List LogRow). length x) rows);
             generation = named_is (gave_of given) adopted;
@@ -265,24 +273,26 @@ module _ (store next : Kept) (kept later : BoardState) (generations : List Gener
           → IsAnswer (did_of asked) (gave_of given) here.state (number_at held seat)
           → Writes (gave_of given) here.opening here.state (entry_then soon seat asked given)
           → HidesNoFault (gave_of given) store.count store.count
+          → store.torn ≡ tears (gave_of given) store.torn
           → revision_in (gave_of given) ≡ 0 → generation_adopted_in (gave_of given) ≡ None
           → ShowsEntry given (entry_then soon seat asked given)
           → StoresIt asked given (entry_then soon seat asked given)
           → Serves here seat asked given (line_now soon.state seat (did_of asked) (gave_of given))
           soon
-      untouched given same state is writes faults =
+      untouched given same state is writes faults tail =
           unwritten given (ap (λ (s : Kept). s.rows) same) (ap (λ (s : Kept). s.limit) same)
           (ap (λ (s : Kept). s.format) same) state is writes
           (omega (arith, ap (λ (s : Kept). s.count) same))
           (subst (HidesNoFault (gave_of given) store.count)
           (sym (ap (λ (s : Kept). s.count) same)) faults)
+          (ap (λ (s : Kept). s.torn) same ∙ tail)
 
       no_memory : next ≡ store → later.needs ≡ kept.needs
           → IsAnswer (did_of asked) Nothing here.state (number_at held seat)
           → Serves here seat asked answer.NoMemory
           (line_now soon.state seat (did_of asked) Nothing) soon
       no_memory same needs is = untouched answer.NoMemory same
-          (stays_so needs (ap (λ (s : Kept). s.rows) same)) is tt refl refl refl tt tt
+          (stays_so needs (ap (λ (s : Kept). s.rows) same)) is tt refl refl refl refl tt tt
 
       -- it would have written this row
       module _ (row : LogRow)
@@ -294,7 +304,7 @@ module _ (store next : Kept) (kept later : BoardState) (generations : List Gener
             (line_now soon.state seat (did_of asked) StoreFailed) soon
         failed f needs is = unwritten answer.StoreFailed f.rows f.limit f.format
             (stays_so needs f.rows) is (row, would StoreFailed, f.within, f.rose) f.later f.once
-            refl refl tt tt
+            f.torn refl refl tt tt
 
         full : (needed : ℕ) → Refusal store next row (no.Full needed) → later.needs ≡ kept.needs
             → IsAnswer (did_of asked) (StoreFull needed) here.state (number_at held seat)
@@ -302,7 +312,7 @@ module _ (store next : Kept) (kept later : BoardState) (generations : List Gener
             (line_now soon.state seat (did_of asked) (StoreFull needed)) soon
         full needed r needs is = untouched (answer.StoreFull needed) r.0
             (stays_so needs (ap (λ (s : Kept). s.rows) r.0)) is
-            (row, would (StoreFull needed), r.1, r.2) refl refl refl tt tt
+            (row, would (StoreFull needed), r.1, r.2) refl refl refl refl tt tt
 
         -- it wrote it
         written : (revision : ℕ) → Wrote store next row revision
@@ -326,7 +336,7 @@ module _ (store next : Kept) (kept later : BoardState) (generations : List Gener
               w.within,
               row_new store.rows next.rows row revision w.rows w.revision_is,
             )
-            w.later w.same_count (record {
+            w.later w.same_count w.whole (record {
               row = omega (arith, w.revision_is, longer, length-append store.rows (row ∷ []));
               replaced = omega (arith, before, longer, length-append store.rows (row ∷ []));
               generation = named_is (Written revision) refl;
@@ -390,7 +400,7 @@ module _ (store next : Kept) (kept later : BoardState) (generations : List Gener
       delete_serves (Ok None) d b =
           untouched (event.Delete path) path_rule (omega arith) answer.Absent d.1
           (stays_so (ap (λ (x : BoardState). x.needs) b) (ap (λ (s : Kept). s.rows) d.1)) d.0 tt
-          refl refl refl tt tt
+          refl refl refl refl tt tt
       delete_serves (Ok (Some revision)) d b =
           written (event.Delete path) path_rule (omega arith) (delete_of path) (λ gave. (d.0, refl))
           revision d.1 (ap (λ (x : BoardState). x.needs) b) d.1.rows (d.0, d.1.revision_is)
@@ -472,6 +482,6 @@ module _ (store next : Kept) (kept later : BoardState) (generations : List Gener
       replace_serves (Err (no.Changed last)) r =
           untouched replace path_rule there_before (answer.Changed last) r.0.1
           (stays_so (ap (λ (x : BoardState). x.needs) r.1) (ap (λ (s : Kept). s.rows) r.0.1))
-          (ap is_some held_is, (λ s. r.0.2 s.0 s.1), r.0.0) tt refl refl refl tt tt
+          (ap is_some held_is, (λ s. r.0.2 s.0 s.1), r.0.0) tt refl refl refl refl tt tt
       replace_serves (Err no.NoMemory) r = no_memory replace path_rule there_before r.0
           (ap (λ (x : BoardState). x.needs) r.1) (ap is_some held_is)

@@ -1,6 +1,6 @@
 -- A step of a rollout: the condition in which an entry may stand behind a state, and the state
 -- after it.
-use Rattle.std.specs.Prelude.{◌≡◌, ℕ, ◌<◌, ◌≤◌, ◌⊎◌, List, [], ◌∷◌, ◌++◌, length, slice_set, All, Option, None, Some, ⊤}
+use Rattle.std.specs.Prelude.{◌≡◌, ℕ, ◌<◌, ◌≤◌, ◌⊎◌, Bool, true, false, List, [], ◌∷◌, ◌++◌, length, slice_set, All, Option, None, Some, ⊤}
 use Rattle.kr_base.specs.Numbering.{next_number}
 use Rattle.kr_base.specs.Rules.{IsPath, IsResource}
 use Rattle.kr_store.specs.declared.rows.LogRow.{LogRow}
@@ -96,6 +96,13 @@ after st e = record {
   rows = st.rows ++ new_rows e.line.gave e.line.did e.row;
   count = e.line.faults;
 }
+
+-- whether a write has failed since the last one that was done, after an answer: one has where it
+-- tells that the store failed, and none where it tells of a row that was written
+abbrev pub tears : Gave → Bool → Bool
+tears StoreFailed torn = true
+tears (Written revision) torn = false
+tears gave torn = torn
 
 -- ---- its condition
 

@@ -1,10 +1,9 @@
 //! The core: a rollout and its journal.
-ghost use Rattle.std.specs.Prelude.{◌≡◌, ◌<◌, ◌≤◌, ◌⊎◌, ◌↔◌, IsTrue, true, length, map, sum, IfErr};
-ghost use Rattle.kr_base.specs.Faults.{Rose};
+ghost use Rattle.std.specs.Prelude.{◌≡◌, ◌<◌, ◌≤◌, ◌↔◌, IsTrue, length, map, sum, IfErr};
 ghost use Rattle.kr_rollout.specs.Callers.{MayAsk};
 ghost use Rattle.kr_rollout.specs.Cores.{Applies, AllMay, AllApply};
 ghost use Rattle.kr_rollout.specs.Entries.{seat_of};
-ghost use Rattle.kr_rollout.specs.Histories.{IsLegal, state_of};
+ghost use Rattle.kr_rollout.specs.Histories.{IsLegal, ends_torn, state_of};
 ghost use Rattle.kr_base.specs.Lines.{of_seat};
 ghost use Rattle.kr_rollout.specs.Openings.{board, opening_by, AreAmong};
 ghost use Rattle.kr_opening.specs.Replicas.{IsFirstIn};
@@ -44,7 +43,7 @@ impl<T: Tape> Model for Core<T> {
     } };
 
     ghost invariant = { λ core. IsCore core.rollout.opening core.rollout.state
-        core.journal.0 core.journal.1 core.room };
+        core.rollout.torn core.journal.0 core.journal.1 core.room };
 }
 
 impl<T: Tape> Core<T> {
@@ -148,8 +147,7 @@ impl<T: Tape> Core<T> {
         ensures count { result.0.count ≡ (state_of self.opening self.history).count }
         ensures format { result.0.format ≡ self.opening.format }
         ensures limit { result.0.limit ≡ self.opening.limit }
-        ensures torn { result.0.torn ≡ true
-            → (self.opening.torn ≡ true) ⊎ Rose self.opening.count result.0.count }
+        ensures torn { result.0.torn ≡ ends_torn self.opening self.history }
         ensures lines { result.1.0 ≡ map (λ entry. entry.line) self.history }
     {
         let Core {

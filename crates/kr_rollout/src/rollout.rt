@@ -1,6 +1,5 @@
 //! A rollout without its journal: the store, the board, the generations and what the seats hold.
-ghost use Rattle.std.specs.Prelude.{◌≡◌, ◌<◌, ◌⊎◌, true, length};
-ghost use Rattle.kr_base.specs.Faults.{Rose};
+ghost use Rattle.std.specs.Prelude.{◌≡◌, ◌<◌, length};
 ghost use Rattle.kr_rollout.specs.declared.event.Event.TheVariants as event;
 ghost use Rattle.kr_rollout.specs.Callers.{gave_of};
 ghost use Rattle.kr_rollout.specs.Openings.{board};
@@ -44,7 +43,7 @@ pub(crate) struct Rollout<T: Tape> {
 
 impl<T: Tape> Model for Rollout<T> {
     ghost use Rattle.std.specs.Prelude.{◌+◌, ◌≤◌, length, sum};
-    ghost use Rattle.kr_rollout.specs.inner.Rollouts.{RolloutState, opening_of, state_with, IsRollout, KeepsFaults};
+    ghost use Rattle.kr_rollout.specs.inner.Rollouts.{RolloutState, opening_of, state_with, IsRollout};
 
     ghost Value = { RolloutState };
 
@@ -52,6 +51,7 @@ impl<T: Tape> Model for Rollout<T> {
       opening = opening_of r.store r.first_rows r.replicas.0 r.names.0 r.reloads.items
           r.first_faults r.first_torn;
       state = state_with r.store r.board r.generations.0 r.current.items r.held.items;
+      torn = r.store.torn;
     } };
 
     ghost invariant = { λ r. IsRollout
@@ -60,8 +60,7 @@ impl<T: Tape> Model for Rollout<T> {
         (state_with r.store r.board r.generations.0 r.current.items r.held.items) r.board
         × (r.first_rows ≤ length r.store.rows)
         × (length r.replicas.0 + sum r.reloads.items
-        ≤ length r.generations.0 + r.generations.1)
-        × KeepsFaults r.first_torn r.first_faults r.store };
+        ≤ length r.generations.0 + r.generations.1) };
 }
 
 impl<T: Tape> Rollout<T> {
@@ -111,8 +110,7 @@ impl<T: Tape> Rollout<T> {
         ensures count { result.count ≡ self.state.count }
         ensures format { result.format ≡ self.opening.format }
         ensures limit { result.limit ≡ self.opening.limit }
-        ensures torn { result.torn ≡ true
-            → (self.opening.torn ≡ true) ⊎ Rose self.opening.count result.count }
+        ensures torn { result.torn ≡ self.torn }
     {
         self.store
     }

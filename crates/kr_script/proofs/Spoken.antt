@@ -9,7 +9,7 @@ use Rattle.std.proofs.lemmas.List.{take-append-le, append_assoc, append-nil, len
 use Rattle.std.proofs.lemmas.List.{drop_all}
 use Rattle.std.specs.Io.KnownBytes.{Appends}
 use Rattle.std.proofs.KnownBytes.{Appends-trans, Appends-nil}
-use Rattle.kr_base.specs.Faults.{Rose}
+use Rattle.kr_base.specs.Faults.{Rose, counted}
 use Rattle.kr_base.specs.Streams.{AppendsFront}
 use Rattle.kr_rollout.specs.declared.line.Line.{Line}
 use Rattle.kr_script.specs.declared.script.Part.{Part}
@@ -18,7 +18,7 @@ use Rattle.kr_script.specs.declared.told.WriteNo.{WriteNo}
 use Rattle.kr_script.specs.declared.told.WriteNo.TheVariants.{Failed, NoMemory}
 use Rattle.kr_script.specs.Fleets.{Fleet, worker_of}
 use Rattle.kr_script.specs.Output.{Replies, journal_text, journal_texts, told_text, told_texts}
-use Rattle.kr_script.specs.Output.{all_texts, told_at, lines_text, fleet_output}
+use Rattle.kr_script.specs.Output.{all_texts, told_at, lines_text, fleet_output, write_failed}
 use Rattle.kr_script.specs.inner.Writing.{Wrote}
 
 -- the front of a whole text was written, and this rest is still to come
@@ -28,6 +28,7 @@ pub record Spoke (before now : Option (List ℕ)) (whole rest : List ℕ) (fault
   pub appended : Appends before now written
   pub split : whole ≡ written ++ rest
   pub later : faults ≤ count
+  pub calm : count ≡ faults
 
 pub spoke_start : (a : Option (List ℕ)) (whole : List ℕ) (faults : ℕ)
     → Spoke a a whole whole faults faults
@@ -36,6 +37,7 @@ spoke_start a whole faults = record {
   appended = Appends-nil a;
   split = refl;
   later = omega arith;
+  calm = refl;
 }
 
 pub spoke_more : {a b : Option (List ℕ)} {whole : List ℕ} {faults count : ℕ} {T : Type 0}
@@ -47,6 +49,7 @@ spoke_more {a} {b} {whole} {faults} {count} c next rest after done s w = record 
   appended = Appends-trans a b c s.written next s.appended w.ok;
   split = s.split ∙ sym (append_assoc s.written next rest);
   later = let l = s.later in let m = w.later in omega (arith, l, m);
+  calm = w.once ∙ s.calm;
 }
 
 front_at : (written next rest whole : List ℕ) (n : ℕ) → whole ≡ written ++ (next ++ rest)
@@ -90,6 +93,7 @@ spoke_fails {a} {b} {whole} {faults} {count} c next rest after why s w = record 
   err = spoke_front c next rest s w.err;
   later = let l = s.later in let m = w.later in omega (arith, l, m);
   failed = λ e. later_rose faults count after s.later (w.failed (same why e));
+  once = w.once ∙ ap (counted (write_failed why)) s.calm;
 }
   where
     same : {S T : Type 0} (why : WriteNo) → IsErrOf {T = S} {E = WriteNo} (Err why) Failed
@@ -111,6 +115,7 @@ spoke_stops {a} {b} {whole} {rest} s = record {
   );
   later = s.later;
   failed = λ e. cc;
+  once = s.calm;
 }
 
 pub spoke_all : {a b : Option (List ℕ)} {whole : List ℕ} {faults count : ℕ} {S : Type 0} (done : S)
@@ -120,6 +125,7 @@ spoke_all {a} {b} {whole} done s = record {
   err = tt;
   later = s.later;
   failed = λ e. cc;
+  once = s.calm;
 }
 
 -- the last text of a whole

@@ -1,5 +1,5 @@
 -- The fleet's output: the lines of the journal, and what each worker told of its lines.
-use Rattle.std.specs.Prelude.{ℕ, ◌+◌, List, [], ◌∷◌, ◌++◌, codes, decimal}
+use Rattle.std.specs.Prelude.{ℕ, ◌+◌, Bool, true, false, List, [], ◌∷◌, ◌++◌, codes, decimal}
 use Rattle.std.specs.Prelude.{slice_index_or}
 use Rattle.base64.specs.Engines.{standard}
 use Rattle.base64.specs.GeneralPurpose.{encode_of}
@@ -15,6 +15,8 @@ use Rattle.kr_rollout.specs.declared.line.Gave.TheVariants as gave
 use Rattle.kr_rollout.specs.declared.line.Line.{Line}
 use Rattle.kr_script.specs.declared.told.Told.{Told}
 use Rattle.kr_script.specs.declared.told.Told.TheVariants as told
+use Rattle.kr_script.specs.declared.told.WriteNo.{WriteNo}
+use Rattle.kr_script.specs.declared.told.WriteNo.TheVariants as stop
 use Rattle.kr_script.specs.Fleets.{Fleet, Worker}
 use Rattle.kr_script.specs.Statements.{replica_name}
 
@@ -214,3 +216,8 @@ output_texts fleet journal replies =
 
 abbrev pub fleet_output : Fleet → List Line → Replies → List ℕ
 fleet_output fleet journal replies = lines_text (output_texts fleet journal replies)
+
+-- whether not all of it was written since the sink failed
+abbrev pub write_failed : WriteNo → Bool
+write_failed stop.Failed = true
+write_failed stop.NoMemory = false

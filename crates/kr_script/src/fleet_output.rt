@@ -1,12 +1,12 @@
 //! Writing the fleet's output.
 ghost use Rattle.std.specs.Prelude.{◌≡◌, ◌≤◌, ◌++◌, codes, OnOk, OnErr, IsErrOf, map};
 ghost use Rattle.std.specs.Io.KnownBytes.{Appends};
-ghost use Rattle.kr_base.specs.Faults.{Rose};
+ghost use Rattle.kr_base.specs.Faults.{Rose, counted, tells_fault};
 ghost use Rattle.kr_base.specs.Streams.{AppendsFront};
 ghost use Rattle.kr_script.specs.Fleets.{fleet_of, worker_of};
 ghost use Rattle.kr_script.specs.Output.{journal_text, journal_texts, told_text, told_texts};
 ghost use Rattle.kr_script.specs.Output.{all_texts, lines_text};
-ghost use Rattle.kr_script.specs.Output.{told_at, fleet_output};
+ghost use Rattle.kr_script.specs.Output.{told_at, fleet_output, write_failed};
 ghost use Rattle.kr_script.specs.inner.Writing.{Wrote};
 
 use crate::journal_text::set_line;
@@ -36,6 +36,8 @@ pub fn write_fleet<K: Sink>(
     ensures later { K.count sink.old ≤ K.count sink.new }
     ensures failed { IsErrOf result WriteNo.Failed
         → Rose (K.count sink.old) (K.count sink.new) }
+    ensures once { K.count sink.new
+        ≡ counted (tells_fault write_failed result) (K.count sink.old) }
 {
     write_parts(alloc, sink, script, journal, replies)
 }

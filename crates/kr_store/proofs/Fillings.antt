@@ -1,23 +1,21 @@
 -- Filling a buffer: how it begins, and how it stops.
-use Rattle.std.proofs.Common.{◌≡◌, ℕ, ◌+◌, ◌-◌, ◌<◌, ◌≤◌, List, [], ◌++◌, length, take, Option, None, Some, Err, IfSome, refl, sym, subst, arith, length-append}
+use Rattle.std.proofs.Common.{◌≡◌, ℕ, ◌+◌, ◌-◌, ◌<◌, ◌≤◌, List, [], ◌++◌, length, take, false, Option, None, Some, Err, IfSome, refl, sym, subst, arith, length-append}
 use Rattle.std.specs.Io.KnownBytes.{Consumes}
-use Rattle.kr_base.proofs.Counting.{Rose-later}
 use Rattle.kr_base.specs.Told.{Agrees}
 use Rattle.kr_store.specs.Breaches.{part}
-use Rattle.kr_store.specs.inner.Reading.{Ahead, Moves, Advances, Breaks, Begins, Fills}
+use Rattle.kr_store.specs.inner.Reading.{Ahead, Moves, Breaks, Begins, Fills}
 use Rattle.kr_store.specs.declared.answers.LoadStop.{LoadStop}
 use Rattle.kr_store.specs.declared.answers.LoadStop.TheVariants.{Breach, Failed, NoMemory}
 use Rattle.kr_store.specs.declared.answers.Cause.TheVariants.{Torn}
 use Rattle.kr_store.proofs.Parts.{part_torn}
-use Rattle.kr_store.proofs.Steps.{seen, rest_of, stays, moves_both, untold_first, Filling}
+use Rattle.kr_store.proofs.Steps.{seen, rest_of, stays, untold_first, Filling}
 
 -- nothing was read
 pub stays_torn : (told : Option (List ℕ)) (place end count : ℕ) (old : Ahead)
     → IfSome told (λ bytes. end ≡ length bytes) → place ≤ end → seen told place end count ≡ old
-    → Advances {A = Unit {0}} Failed old old (Err (Breach Torn))
+    → Moves false old old
 stays_torn told place end count old e w is =
-    subst (λ (a : Ahead). Advances {A = Unit {0}} Failed a a (Err (Breach Torn))) is
-    (record { moves = stays told place end count e w; failed = λ f. cc })
+    subst (λ (a : Ahead). Moves false a a) is (stays told place end count e w)
 
 pub begins_filling : (told : Option (List ℕ)) (place end count : ℕ) (old : Ahead) (into : List ℕ)
     → IfSome told (λ bytes. end ≡ length bytes) → place ≤ end → length into ≤ end - place
@@ -33,23 +31,6 @@ begins_filling told place end count old into e w l is =
     none : (t : Option (List ℕ)) → Consumes t t []
     none None = tt
     none (Some bytes) = refl
-
--- a later part stops
-pub stops_filling : (first now next : Ahead) (stop : LoadStop) → Moves first now
-    → Advances {A = ℕ} Failed now next (Err stop)
-    → Advances {A = Unit {0}} Failed first next (Err stop)
-stops_filling first now next (Breach cause) m a = record {
-  moves = moves_both first now next m a.moves;
-  failed = λ e. cc;
-}
-stops_filling first now next Failed m a = record {
-  moves = moves_both first now next m a.moves;
-  failed = λ e. Rose-later first.count now.count next.count m.later (a.failed refl);
-}
-stops_filling first now next NoMemory m a = record {
-  moves = moves_both first now next m a.moves;
-  failed = λ e. cc;
-}
 
 -- where the tape tells nothing, it may have no more
 breaks_untold : (first : Ahead) (n : ℕ) → first.left ≡ None → first.place ≤ first.end → 0 < n

@@ -10,7 +10,8 @@ use Rattle.kr_store.specs.inner.KeptRows.{log_row_of, log_rows_of, IsKeptRow, Ar
 use Rattle.kr_store.specs.File.{magic, row_bytes, rows_bytes, file_bytes}
 use Rattle.kr_store.specs.Breaches.{Read, behind, row_part, next_row, may_change, kept_if, BreaksFileAt}
 use Rattle.kr_store.specs.inner.Index.{IsIndexOf, Adds, allows}
-use Rattle.kr_store.specs.inner.Reading.{Ahead, Moves, Gives, Takes, MayBreak, AreLoaded, LoadsRows, kept_bytes, load_refusal}
+use Rattle.kr_store.specs.inner.Reading.{Ahead, Moves, Gives, Takes, MayBreak, AreLoaded, LoadsRows, kept_bytes, load_refusal, stop_failed}
+use Rattle.kr_store.specs.Stores.{load_failed}
 use Rattle.kr_store.specs.declared.answers.Cause.{Cause}
 use Rattle.kr_store.specs.declared.answers.Cause.TheVariants.{Torn, BadRow, Order}
 use Rattle.kr_store.specs.declared.answers.LoadStop.{LoadStop}
@@ -26,7 +27,7 @@ use Rattle.kr_store.proofs.Steps.{takes_both, moves_both, some_left, agrees_behi
 -- the rows that were read so far
 pub record IsReadTo (first now : Ahead) (format : Format) (rows : List KeptRow) (index : Index)
     : Type 0 where
-  pub moves : Moves first now
+  pub moves : Moves false first now
   pub takes : Takes first now (file_bytes format (log_rows_of rows))
   pub start : first.place ≡ 0
   pub kept_rows : AreKeptRows format 1 rows
@@ -102,7 +103,7 @@ follows format rows k (kept.Delete path) is small i m =
 
 pub loading_more : (first now next : Ahead) (format : Format) (rows : List KeptRow)
     (index after : Index) (e : KeptRow) (k : ℕ) → IsReadTo first now format rows index
-    → k ≡ length rows + 1 → k < 2 ^ 64 → Moves now next → Takes now next (kept_bytes k e)
+    → k ≡ length rows + 1 → k < 2 ^ 64 → Moves false now next → Takes now next (kept_bytes k e)
     → IsKeptRow format k e → allows index e ≡ true → Adds index after k (log_row_of e)
     → IsReadTo first next format (rows ++ e ∷ []) after
 loading_more first now next format rows index after e k l is small m t i a d =
@@ -141,7 +142,7 @@ loading_ended first now format rows index l e =
       indexed = l.indexed;
     }
 
-pub nothing_loaded : (first : Ahead) (index : Index) → Moves first first → first.place ≡ 0
+pub nothing_loaded : (first : Ahead) (index : Index) → Moves false first first → first.place ≡ 0
     → first.place ≡ first.end → IsIndexOf [] index → AreLoaded first Two [] index
 nothing_loaded first index m s e i =
     let some = some_left first.left first.place first.end m.within m.known in
@@ -268,6 +269,15 @@ row_breaks first now format rows index k cause at [] l is more p a w b = by_left
         (reads_none format k cause b)
     by_left (Some held) e a = absurd (more (told_out now held e a l.moves.known))
 
+-- the tape failed exactly where the row's reading stopped since it failed
+pub refusal_failed : (stop : LoadStop) (at : ℕ) → load_failed (load_refusal stop at)
+    ≡ stop_failed stop
+refusal_failed (Breach Torn) at = refl
+refusal_failed (Breach BadRow) at = refl
+refusal_failed (Breach Order) at = refl
+refusal_failed Failed at = refl
+refusal_failed NoMemory at = refl
+
 pub row_stops : {A : Type 0} (first now next : Ahead) (format : Format) (rows : List KeptRow)
     (index : Index) (k : ℕ) (w : A → List ℕ) (stop : LoadStop) (at : ℕ)
     → IsReadTo first now format rows index → k ≡ length rows + 1
@@ -288,7 +298,7 @@ row_stops first now next format rows index k w NoMemory at l is more p b = tt
 pub row_refused : (first now next : Ahead) (format : Format) (rows : List KeptRow)
     (index : Index) (e : KeptRow) (k at : ℕ) → IsReadTo first now format rows index
     → k ≡ length rows + 1 → k < 2 ^ 64 → at ≡ now.place → Takes now next (kept_bytes k e)
-    → Moves now next → IsKeptRow format k e → allows index e ≡ false
+    → Moves false now next → IsKeptRow format k e → allows index e ≡ false
     → MayBreak first (no.BadRow at)
 row_refused first now next format rows index e k at l is small p t m i a =
     let some = some_left next.left next.place next.end m.within m.known in

@@ -1,12 +1,10 @@
 -- Bytes that were read ahead.
-use Rattle.std.proofs.Common.{◌≡◌, ℕ, ◌+◌, ◌-◌, ◌<◌, ◌≤◌, min, List, [], ◌++◌, length, take, drop, Option, None, Some, IfSome, Result, IsErrOf, refl, sym, ◌∙◌, ap, subst, arith, length-take, length-drop}
+use Rattle.std.proofs.Common.{◌≡◌, ℕ, ◌+◌, ◌-◌, ◌<◌, ◌≤◌, min, List, [], ◌++◌, length, take, drop, Bool, false, Option, None, Some, IfSome, IsTrue, Result, Ok, Err, OnErr, is_err, refl, sym, ◌∙◌, ap, subst, arith, length-take, length-drop}
 use Rattle.std.proofs.lemmas.List.{take-append-drop, drop-drop, drop-take, take_at, take-take, length-take-le}
 use Rattle.std.specs.Io.KnownBytes.{Consumes}
 use Rattle.kr_base.specs.Tapes.{ReadsAt}
-use Rattle.kr_base.specs.Faults.{Rose}
-use Rattle.kr_store.specs.declared.answers.LoadStop.{LoadStop}
-use Rattle.kr_store.specs.declared.answers.LoadStop.TheVariants.{Failed}
-use Rattle.kr_store.specs.inner.Reading.{Ahead, Advances, Takes}
+use Rattle.kr_base.specs.Faults.{Rose, IsCounted}
+use Rattle.kr_store.specs.inner.Reading.{Ahead, Moves, Takes}
 use Rattle.kr_store.proofs.Steps.{left_known, rest_of, seen}
 
 -- the next bytes were taken
@@ -48,31 +46,48 @@ handed u f n size ahead l m s is =
     )
 
 -- the reader goes on within what the tape still holds
-pub goes_on : (told now : Option (List ℕ)) (place to end count later : ℕ)
-    (result : Result ℕ LoadStop) (old : Ahead) → now ≡ told
-    → IfSome told (λ bytes. end ≡ length bytes) → to ≤ end → count ≤ later
-    → (IsErrOf result Failed → Rose count later) → seen told place end count ≡ old
-    → Advances Failed old (seen now to end later) result
-goes_on told now place to end count later result old same e w l f is =
-    subst (λ (a : Ahead). Advances Failed a (seen now to end later) result) is (record {
-      moves = record {
-        told = same;
-        end = refl;
-        within = w;
-        known = left_known now to end
-            (subst (λ t. IfSome t (λ bytes. end ≡ length bytes)) (sym same) e) w;
-        later = l;
-      };
-      failed = f;
+pub goes_on : {T E : Type 0} (told now : Option (List ℕ)) (place to end count later : ℕ)
+    (read : Result T E) (old : Ahead) → now ≡ told
+    → IfSome told (λ bytes. end ≡ length bytes) → to ≤ end → IsCounted count later read
+    → seen told place end count ≡ old → Moves (is_err read) old (seen now to end later)
+goes_on {T} {E} told now place to end count later read old same e w counts is =
+    subst (λ (a : Ahead). Moves (is_err read) a (seen now to end later)) is (record {
+      told = same;
+      end = refl;
+      within = w;
+      known = left_known now to end
+          (subst (λ t. IfSome t (λ bytes. end ≡ length bytes)) (sym same) e) w;
+      later = counts.later;
+      rose = rose_at read counts.failed;
+      once = counts.once;
+    })
+  where
+    rose_at : (r : Result T E) → OnErr r (Rose count later) → IsTrue (is_err r) → Rose count later
+    rose_at (Ok x) h e = cc
+    rose_at (Err why) h e = h
+
+-- the reader goes on and reads nothing
+pub goes_by : (told : Option (List ℕ)) (place to end count : ℕ) (old : Ahead)
+    → IfSome told (λ bytes. end ≡ length bytes) → to ≤ end → seen told place end count ≡ old
+    → Moves false old (seen told to end count)
+goes_by told place to end count old e w is =
+    subst (λ (a : Ahead). Moves false a (seen told to end count)) is (record {
+      told = refl;
+      end = refl;
+      within = w;
+      known = left_known told to end e w;
+      later = omega arith;
+      rose = λ e. cc;
+      once = refl;
     })
 
 -- no bytes are read ahead
-pub none_ahead : (told now : Option (List ℕ)) (place end size : ℕ) → now ≡ told → place ≤ end
-    → IfSome told (λ bytes. end ≡ length bytes) → 0 < size
+pub none_ahead : (told now : Option (List ℕ)) (place end size : ℕ) (loose : Bool) → now ≡ told
+    → place ≤ end → IfSome told (λ bytes. end ≡ length bytes) → 0 < size → loose ≡ false
     → (place ≤ end) × IfSome now (λ bytes. end ≡ length bytes) × (place ≤ place)
     × (place ≤ place + 0) × (0 < size) × (0 ≤ size)
-    × IfSome now (λ (bytes : List ℕ). ◌≡◌ {A = List ℕ} [] [])
-none_ahead told now place end size same w e s = (
+    × IfSome now (λ (bytes : List ℕ). ◌≡◌ {A = List ℕ} [] []) × (loose ≡ false)
+none_ahead told now place end size loose same w e s tight = (
   w,
   subst (λ t. IfSome t (λ bytes. end ≡ length bytes)) (sym same) e,
   omega arith,
@@ -80,6 +95,7 @@ none_ahead told now place end size same w e s = (
   s,
   omega arith,
   nothing now,
+  tight,
 )
   where
     nothing : (t : Option (List ℕ)) → IfSome t (λ (bytes : List ℕ). ◌≡◌ {A = List ℕ} [] [])
@@ -152,13 +168,14 @@ still_room into rest n e s = subst (λ (l : List ℕ). 0 < length l) (sym (take_
 
 -- bytes were just read ahead, and the first of them handed out
 pub read_ahead : (told now : Option (List ℕ)) (place n end f size : ℕ) (ahead rest : List ℕ)
-    → now ≡ told → IfSome told (λ bytes. end ≡ length bytes) → place + n ≤ end → n ≤ f
+    (loose : Bool) → now ≡ told → IfSome told (λ bytes. end ≡ length bytes) → place + n ≤ end → n ≤ f
     → length ahead ≡ size → 0 < length ahead → f ≤ length ahead → ReadsAt told place f ahead
-    → (place + n ≤ end) × IfSome now (λ bytes. end ≡ length bytes) × (place ≤ place + n)
+    → loose ≡ false → (place + n ≤ end) × IfSome now (λ bytes. end ≡ length bytes) × (place ≤ place + n)
     × (place + n ≤ place + f) × (0 < length (take size (ahead ++ rest)))
     × (f ≤ length (take size (ahead ++ rest)))
     × IfSome now (λ bytes. take f (take size (ahead ++ rest)) ≡ take f (drop place bytes))
-read_ahead told now place n end f size ahead rest same e w l is s m read =
+    × (loose ≡ false)
+read_ahead told now place n end f size ahead rest loose same e w l is s m read tight =
     let all = sym (take_at ahead rest size is) in (
       w,
       subst (λ t. IfSome t (λ bytes. end ≡ length bytes)) (sym same) e,
@@ -169,4 +186,5 @@ read_ahead told now place n end f size ahead rest same e w l is s m read =
       subst (λ (xs : List ℕ). IfSome now (λ bytes. take f xs ≡ take f (drop place bytes))) all
           (subst (λ t. IfSome t (λ bytes. take f ahead ≡ take f (drop place bytes))) (sym same)
           (reads_front told place f ahead read)),
+      tight,
     )

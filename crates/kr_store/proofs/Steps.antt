@@ -1,5 +1,5 @@
 -- Reading part by part: how one part's answer and the next one's give that of both.
-use Rattle.std.proofs.Common.{◌≡◌, ℕ, ◌+◌, ◌-◌, ◌<◌, ◌≤◌, min, List, [], ◌∷◌, ◌++◌, length, take, drop, Option, None, Some, Result, Ok, Err, IfSome, refl, sym, ◌∙◌, ap, subst, arith, length-append, length-take, length-drop, inl, inr}
+use Rattle.std.proofs.Common.{◌≡◌, ℕ, ◌+◌, ◌-◌, ◌<◌, ◌≤◌, min, List, [], ◌∷◌, ◌++◌, length, take, drop, Bool, false, Option, None, Some, Result, Ok, Err, IfSome, refl, sym, ◌∙◌, ap, subst, arith, length-append, length-take, length-drop, inl, inr}
 use Rattle.std.proofs.lemmas.List.{append-nil, drop_all, drop_at, take_at, take-append-drop, length-take-le, take_all, take-take}
 use borrow.Rule.Slice.PartMut.{put_mid}
 use Rattle.std.proofs.Math.Seq.{take-append-add, take-append_seam}
@@ -7,12 +7,14 @@ use Rattle.std.specs.Option.{option_map}
 use Rattle.std.specs.Io.KnownBytes.{Consumes}
 use Rattle.std.proofs.KnownBytes.{Consumes-trans}
 use Rattle.kr_base.proofs.Counting.{Rose-later}
+use Rattle.kr_base.specs.Faults.{counted, tells_fault}
 use Rattle.kr_base.specs.Told.{Agrees}
 use Rattle.kr_base.specs.Tapes.{ReadsAt}
 use Rattle.kr_store.specs.Breaches.{Read, behind, part}
 use Rattle.kr_store.specs.inner.Reading.{Ahead, Moves, Breaks, Takes, Begins, Reads, IsShort, IsNamed, Names, MayBreak}
 use Rattle.kr_store.specs.declared.format.Format.{Format}
 use Rattle.kr_store.specs.File.{store_name, magic}
+use Rattle.kr_store.specs.Stores.{load_failed}
 use Rattle.kr_store.specs.declared.answers.StoreNo.{StoreNo}
 use Rattle.kr_store.specs.declared.answers.StoreNo.TheVariants as no
 use Rattle.kr_store.proofs.Parts.{part_torn}
@@ -76,14 +78,16 @@ left_known (Some held) place end e w = omega (arith, length-drop place held)
 
 -- a reader that hasn't moved
 pub stays : (told : Option (List ℕ)) (place end count : ℕ)
-    → IfSome told (λ bytes. end ≡ length bytes) → place ≤ end → Moves (seen told place end count)
-    (seen told place end count)
+    → IfSome told (λ bytes. end ≡ length bytes) → place ≤ end
+    → Moves false (seen told place end count) (seen told place end count)
 stays told place end count e w = record {
   told = refl;
   end = refl;
   within = w;
   known = left_known told place end e w;
   later = omega arith;
+  rose = λ e. cc;
+  once = refl;
 }
 
 -- some bytes are left
@@ -100,13 +104,16 @@ untold_first None b front c u = refl
 untold_first (Some xs) None front c u = absurd c
 untold_first (Some xs) (Some ys) front c u = cc
 
-pub moves_both : (a b c : Ahead) → Moves a b → Moves b c → Moves a c
-moves_both a b c m n = record {
+pub moves_both : {failed : Bool} (a b c : Ahead) → Moves false a b → Moves failed b c
+    → Moves failed a c
+moves_both {failed} a b c m n = record {
   told = n.told ∙ m.told;
   end = n.end ∙ m.end;
   within = n.within;
   known = n.known;
   later = omega (arith, m.later, n.later);
+  rose = λ e. Rose-later a.count b.count c.count m.later (n.rose e);
+  once = n.once ∙ ap (counted failed) m.once;
 }
 
 -- the bytes that were taken come first
@@ -131,7 +138,7 @@ breaks_behind old mid front first next x cause t e r b = record {
 
 -- a part was read, and breaks its rule
 pub breaks_here : {B : Type 0} (old mid : Ahead) (front : List ℕ) (reads : List ℕ → Read B)
-    (cause : Cause) → Takes old mid front → Moves old mid
+    (cause : Cause) → Takes old mid front → Moves false old mid
     → ((rest : List ℕ) → reads (front ++ rest) ≡ Err cause) → Breaks old reads cause
 breaks_here old mid front reads cause t m r =
     let some = some_left mid.left mid.place mid.end m.within m.known in
@@ -144,18 +151,18 @@ breaks_here old mid front reads cause t m r =
 
 -- a part was read whole
 pub was_read : {A B : Type 0} (old new : Ahead) (w : A → List ℕ) (reads : List ℕ → Read B) (x : A)
-    → Moves old new → Takes old new (w x) → Reads {A = A} {B = B} old new w reads (Ok x)
+    → Moves false old new → Takes old new (w x) → Reads {A = A} {B = B} old new w reads (Ok x)
 was_read old new w reads x m t = record {
-  advances = record { moves = m; failed = λ e. cc };
+  advances = m;
   gives = t;
 }
 
 -- a part breaks
 pub was_broken : {A B : Type 0} (old new : Ahead) (w : A → List ℕ) (reads : List ℕ → Read B)
-    (cause : Cause) → Moves old new → Breaks old reads cause
+    (cause : Cause) → Moves false old new → Breaks old reads cause
     → Reads {A = A} {B = B} old new w reads (Err (Breach cause))
 was_broken old new w reads cause m b = record {
-  advances = record { moves = m; failed = λ e. cc };
+  advances = m;
   gives = b;
 }
 
@@ -179,7 +186,7 @@ takes_both a b c front more t u = record {
 
 -- a buffer is filled from the front: what stands in it was taken
 pub record Filling (first now : Ahead) (into : List ℕ) (done : ℕ) : Type 0 where
-  pub moves : Moves first now
+  pub moves : Moves false first now
   pub takes : Takes first now (take done into)
   pub within : done ≤ length into
   pub room : now.place + (length into - done) ≤ now.end
@@ -192,7 +199,7 @@ take_two into piece done n d = ap (λ k. take (k + n) (take done into ++ piece))
 pub filling_more : (first now next : Ahead) (into piece : List ℕ) (done n : ℕ)
     → Filling first now into done → done ≤ length into → length piece ≡ length into - done
     → n ≤ length piece
-    → Moves now next → Takes now next (take n piece) → Filling first next (take done into ++ piece)
+    → Moves false now next → Takes now next (take n piece) → Filling first next (take done into ++ piece)
     (done + n)
 filling_more first now next into piece done n f d e k m t = record {
   moves = moves_both first now next f.moves m;
@@ -242,23 +249,16 @@ rest_length into done = omega (
 -- the next part stops, and so does the whole
 pub stops_behind : {A B C D : Type 0} (old mid new : Ahead) (front : List ℕ) (first : List ℕ
     → Read A) (next : A → List ℕ → Read B) (x : A) (w : C → List ℕ) (v : D → List ℕ) (stop : LoadStop)
-    → Takes old mid front → Moves old mid → ((rest : List ℕ) → first (front ++ rest) ≡ Ok
+    → Takes old mid front → Moves false old mid → ((rest : List ℕ) → first (front ++ rest) ≡ Ok
     (x, rest)) → Reads {A = C} {B = B} mid new w (next x) (Err stop)
     → Reads {A = D} {B = B} old new v (λ bytes. behind (first bytes) next) (Err stop)
 stops_behind old mid new front first next x w v (Breach cause) t m r b = was_broken old new v
-    (λ bytes. behind (first bytes) next) cause (moves_both old mid new m b.advances.moves)
+    (λ bytes. behind (first bytes) next) cause (moves_both old mid new m b.advances)
     (breaks_behind old mid front first next x cause t m.end r b.gives)
-stops_behind old mid new front first next x w v Failed t m r b = record {
-  advances = record {
-    moves = moves_both old mid new m b.advances.moves;
-    failed = λ e. Rose-later old.count mid.count new.count m.later (b.advances.failed refl);
-  };
-  gives = tt;
-}
-stops_behind old mid new front first next x w v NoMemory t m r b = record {
-  advances = record { moves = moves_both old mid new m b.advances.moves; failed = λ e. cc };
-  gives = tt;
-}
+stops_behind old mid new front first next x w v Failed t m r b =
+    record { advances = moves_both old mid new m b.advances; gives = tt }
+stops_behind old mid new front first next x w v NoMemory t m r b =
+    record { advances = moves_both old mid new m b.advances; gives = tt }
 
 -- the first part stops
 pub stops_first : {A B C D : Type 0} (old new : Ahead) (first : List ℕ → Read A) (next : A → List ℕ
@@ -266,16 +266,10 @@ pub stops_first : {A B C D : Type 0} (old new : Ahead) (first : List ℕ → Rea
     → Reads {A = C} {B = A} old new w first (Err stop) → Reads {A = D} {B = B} old new v
     (λ bytes. behind (first bytes) next) (Err stop)
 stops_first old new first next w v (Breach cause) b = was_broken old new v
-    (λ bytes. behind (first bytes) next) cause b.advances.moves
+    (λ bytes. behind (first bytes) next) cause b.advances
     (breaks_first old first next cause b.gives)
-stops_first old new first next w v Failed b = record {
-  advances = record { moves = b.advances.moves; failed = λ e. b.advances.failed refl };
-  gives = tt;
-}
-stops_first old new first next w v NoMemory b = record {
-  advances = record { moves = b.advances.moves; failed = λ e. cc };
-  gives = tt;
-}
+stops_first old new first next w v Failed b = record { advances = b.advances; gives = tt }
+stops_first old new first next w v NoMemory b = record { advances = b.advances; gives = tt }
 
 -- a buffer that wasn't filled
 pub short_behind : (first now next : Ahead) (into : List ℕ) (done n : ℕ) (piece : List ℕ)
@@ -323,7 +317,7 @@ same_front named front rest l same =
 
 -- the front of the file was read, and is no magic
 unnamed : (old new : Ahead) (front : List ℕ) (why : StoreNo) → Takes old new front
-    → Moves old new → old.place ≡ 0 → 0 < length front → length front ≡ min old.end 8
+    → Moves false old new → old.place ≡ 0 → 0 < length front → length front ≡ min old.end 8
     → IsNamed front (Err why) → Names old new (Err why)
 unnamed old new front no.Magic t m s l e i =
     let some = some_left new.left new.place new.end m.within m.known in record {
@@ -346,8 +340,15 @@ unnamed old new front no.Failed t m s l e i = tt
 unnamed old new front no.NoMemory t m s l e i = tt
 unnamed old new front other t m s l e i = i
 
+-- what names no format isn't a fault of the tape
+pub named_calm : (front : List ℕ) (result : Result Format StoreNo) → IsNamed front result
+    → tells_fault load_failed result ≡ false
+named_calm front (Ok format) i = refl
+named_calm front (Err no.Failed) i = absurd i
+named_calm front (Err other) i = refl
+
 pub named_by : (old new : Ahead) (front : List ℕ) (result : Result Format StoreNo)
-    → Takes old new front → Moves old new → old.place ≡ 0 → 0 < length front
+    → Takes old new front → Moves false old new → old.place ≡ 0 → 0 < length front
     → length front ≡ min old.end 8 → IsNamed front result → Names old new result
 named_by old new front (Ok format) t m s l e i = subst (λ b. Takes old new b) i t
 named_by old new front (Err why) t m s l e i = unnamed old new front why t m s l e i

@@ -41,6 +41,11 @@ Holds store =
     × IfSome store.told (λ bytes. (rest : List ℕ) × (bytes ≡ file ++ rest)
     × (store.torn ≡ false → rest ≡ []))
 
+-- whether a tape wasn't loaded since it failed
+abbrev pub load_failed : StoreNo → Bool
+load_failed no.Failed = true
+load_failed why = false
+
 -- bytes that the tape may have are within the limit and have this first breach; so they are no
 -- file, by a law of breaches
 abbrev pub HasBreach : Option (List ℕ) → ℕ → StoreNo → Type 0

@@ -4,6 +4,7 @@ ghost use Rattle.kr_store.specs.declared.format.Format.TheVariants.{Two};
 ghost use Rattle.kr_store.specs.inner.Index.{Adds, IsIndexOf};
 ghost use Rattle.kr_store.specs.inner.KeptRows.{log_row_of};
 ghost use Rattle.kr_store.specs.inner.Reading.{Advances, LoadsRows, load_refusal};
+ghost use Rattle.kr_store.specs.Stores.{load_failed};
 
 use crate::answers::{Cause, LoadStop, StoreNo};
 use crate::format::Format;
@@ -24,7 +25,7 @@ pub(crate) struct Contents {
 /// Loads the rows of the whole file, or finds its first breach.
 pub(crate) fn load_rows<T: Tape>(alloc: Global, reader: &mut Reader<T>) -> Result<Contents, StoreNo>
     requires { reader.old.place ≡ 0 }
-    ensures advances { Advances StoreNo.Failed reader.old reader.new result }
+    ensures advances { Advances load_failed reader.old reader.new result }
     ensures loads { LoadsRows reader.old result }
 {
     if reader.is_at_end() {

@@ -15,6 +15,7 @@ pub(crate) struct Log<T: Tape> {
 }
 
 impl<T: Tape> Model for Log<T> {
+    ghost use Rattle.std.specs.Prelude.{◌≡◌, false};
     ghost use Rattle.kr_store.specs.inner.Log.{Tail, HoldsEnd};
 
     ghost Value = { Tail };
@@ -26,13 +27,16 @@ impl<T: Tape> Model for Log<T> {
       torn = log.torn;
     } };
 
-    ghost invariant = { λ log. HoldsEnd (T.told log.tape) log.end log.torn };
+    // What was cut is settled, unless a write has failed.
+    ghost invariant = { λ log. HoldsEnd (T.told log.tape) log.end log.torn
+        × (log.torn ≡ false → T.loose log.tape ≡ false) };
 }
 
 impl<T: Tape> Log<T> {
     /// A tape that ends with its file.
     pub fn new(tape: T, end: u64) -> Log<T>
-        requires { IfSome (T.told tape) (λ bytes. end ≡ length bytes) }
+        requires end { IfSome (T.told tape) (λ bytes. end ≡ length bytes) }
+        requires cuts { T.loose tape ≡ false }
         ensures { result ≡ record {
           told = T.told tape;
           count = T.count tape;

@@ -1,12 +1,13 @@
 //! Reading a file from front to back.
-ghost use Rattle.std.specs.Prelude.{◌≡◌, ◌≢◌, ℕ, ◌+◌, ◌^◌, ◌<◌, ◌≤◌, min, get_or, [], ◌∷◌, length, IfSome, IfOk, IfErr, MatchOption, IsTrue, ◌↔◌, take};
+ghost use Rattle.std.specs.Prelude.{◌≡◌, ◌≢◌, ℕ, ◌+◌, ◌^◌, ◌<◌, ◌≤◌, min, get_or, [], ◌∷◌, length, false, IfSome, IfOk, IfErr, MatchOption, IsTrue, ◌↔◌, take};
 ghost use Rattle.std.specs.Int.{w16, w32, w64, to_be_bytes};
 ghost use Rattle.kr_base.specs.Rules.{IsPath, IsResource};
 ghost use Rattle.kr_store.specs.Rows.{longest_value, HasCheck};
 ghost use Rattle.kr_store.specs.inner.KeptRows.{IsKeptRow};
+ghost use Rattle.kr_store.specs.Stores.{load_failed};
 ghost use Rattle.kr_store.specs.File.{text_bytes, value_bytes, check_bytes, kind_byte};
 ghost use Rattle.kr_store.specs.Breaches.{part, number_16, number_32, number_64, sized_part, path_part, resource_part, check_part, value_part, kind_part, revision_part, head_part, put_part, row_part};
-ghost use Rattle.kr_store.specs.inner.Reading.{Moves, Advances, Begins, Fills, IsShort, IsNamed, Names, Reads, items_of, sized_bytes, head_bytes, put_bytes, kept_bytes};
+ghost use Rattle.kr_store.specs.inner.Reading.{Moves, Advances, stop_failed, Begins, Fills, IsShort, IsNamed, Names, Reads, items_of, sized_bytes, head_bytes, put_bytes, kept_bytes};
 
 use crate::answers::{Cause, LoadStop, StoreNo};
 use crate::format::{Check, Format, MAGIC_LENGTH, STORE_NAME};
@@ -88,7 +89,7 @@ pub(crate) struct Reader<T: Tape> {
 }
 
 impl<T: Tape> Model for Reader<T> {
-    ghost use Rattle.std.specs.Prelude.{◌≡◌, ◌+◌, ◌<◌, ◌≤◌, length, take, drop, IfSome};
+    ghost use Rattle.std.specs.Prelude.{◌≡◌, ◌+◌, ◌<◌, ◌≤◌, length, take, drop, false, IfSome};
     ghost use Rattle.std.specs.Option.{option_map};
     ghost use Rattle.kr_store.specs.inner.Reading.{Ahead};
 
@@ -107,13 +108,15 @@ impl<T: Tape> Model for Reader<T> {
         × (reader.start ≤ reader.place) × (reader.place ≤ reader.start + reader.filled)
         × (0 < length reader.ahead.items) × (reader.filled ≤ length reader.ahead.items)
         × IfSome (T.told reader.tape) (λ bytes. take reader.filled reader.ahead.items
-        ≡ take reader.filled (drop reader.start bytes)) };
+        ≡ take reader.filled (drop reader.start bytes))
+        × (T.loose reader.tape ≡ false) };
 }
 
 impl<T: Tape> Reader<T> {
     /// A reader of a tape with so many bytes.
     pub fn new(alloc: Global, tape: T, end: u64) -> Result<Reader<T>, (NoMemory, T)>
-        requires { IfSome (T.told tape) (λ bytes. end ≡ length bytes) }
+        requires end { IfSome (T.told tape) (λ bytes. end ≡ length bytes) }
+        requires cuts { T.loose tape ≡ false }
         ensures ok { IfOk result (λ reader. reader ≡ record {
           told = T.told tape;
           left = T.told tape;
@@ -140,6 +143,7 @@ impl<T: Tape> Reader<T> {
     pub fn into_tape(self) -> T
         ensures told { T.told result ≡ self.told }
         ensures count { T.count result ≡ self.count }
+        ensures cuts { T.loose result ≡ false }
     {
         let Reader { tape, .. } = self;
         tape
@@ -155,7 +159,7 @@ impl<T: Tape> Reader<T> {
     /// Whether no byte is left.
     pub fn is_at_end(&self) -> bool
         ensures at { IsTrue result ↔ (self.now.place ≡ self.now.end) }
-        ensures moves { Moves self.now self.now }
+        ensures moves { Moves false self.now self.now }
     {
         self.place == self.end
     }
@@ -164,7 +168,7 @@ impl<T: Tape> Reader<T> {
     fn some(&mut self, into: &mut [u8]) -> Result<usize, LoadStop>
         requires some { 0 < length into.old }
         requires within { self.old.place + length into.old ≤ self.old.end }
-        ensures advances { Advances LoadStop.Failed self.old self.new result }
+        ensures advances { Advances stop_failed self.old self.new result }
         ensures read { Begins self.old self.new into.new result }
     {
         let used = (self.place - self.start) as usize;
@@ -202,7 +206,7 @@ impl<T: Tape> Reader<T> {
 
     /// The next bytes, as many as the buffer holds.
     fn fill(&mut self, into: &mut [u8]) -> Result<(), LoadStop>
-        ensures advances { Advances LoadStop.Failed self.old self.new result }
+        ensures advances { Advances stop_failed self.old self.new result }
         ensures read { Fills self.old self.new into.new result }
         ensures short { IsShort self.old (length into.old) result }
     {
@@ -223,7 +227,7 @@ impl<T: Tape> Reader<T> {
     pub fn magic(&mut self) -> Result<Format, StoreNo>
         requires start { self.old.place ≡ 0 }
         requires some { 0 < self.old.end }
-        ensures advances { Advances StoreNo.Failed self.old self.new result }
+        ensures advances { Advances load_failed self.old self.new result }
         ensures names { Names self.old self.new result }
     {
         let mut front = [0; MAGIC_LENGTH];
@@ -236,7 +240,7 @@ impl<T: Tape> Reader<T> {
         requires start { self.old.place ≡ 0 }
         requires some { 0 < length front.old }
         requires size { length front.old ≡ min self.old.end 8 }
-        ensures advances { Advances StoreNo.Failed self.old self.new result }
+        ensures advances { Advances load_failed self.old self.new result }
         ensures names { Names self.old self.new result }
     {
         match self.fill(front) {

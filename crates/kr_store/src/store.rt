@@ -1,6 +1,6 @@
 //! A store: its rows, their index, and the file that they are.
-ghost use Rattle.std.specs.Prelude.{◌≡◌, ℕ, ◌≤◌, ◌^◌, ◌<◌, ◌+◌, ◌++◌, ◌-◌, get_or, false, length, IfOk, IfErr, IfSome, IsSome};
-ghost use Rattle.kr_base.specs.Faults.{Rose};
+ghost use Rattle.std.specs.Prelude.{◌≡◌, ℕ, ◌≤◌, ◌^◌, ◌<◌, ◌+◌, ◌++◌, ◌-◌, get_or, false, length, IfOk, IfErr, IfSome, IsSome, MatchResult};
+ghost use Rattle.kr_base.specs.Faults.{Rose, counted};
 ghost use Rattle.kr_base.specs.Rules.{IsPath, IsResource};
 ghost use Rattle.kr_store.specs.declared.format.Format.{Format};
 ghost use Rattle.kr_store.specs.declared.kept_row.KeptRow.{KeptRow};
@@ -9,7 +9,7 @@ ghost use Rattle.kr_store.specs.Rows.{longest_value, live, put_of, check_in, May
 ghost use Rattle.kr_store.specs.inner.KeptRows.{log_row_of, shared_row, IsKeptRow, IsChange};
 ghost use Rattle.kr_store.specs.inner.Writing.{lead};
 ghost use Rattle.kr_store.specs.File.{row_bytes};
-ghost use Rattle.kr_store.specs.Stores.{Loads, Holds, Puts, Deletes, Replaces, IsNext, LendsRow, IsLent, IsLiveCount};
+ghost use Rattle.kr_store.specs.Stores.{Loads, load_failed, Holds, Puts, Deletes, Replaces, IsNext, LendsRow, IsLent, IsLiveCount};
 
 use crate::answers::{PutNo, StoreNo};
 use crate::encode::{row_bytes, row_length};
@@ -140,9 +140,10 @@ impl<T: Tape> Model for Store<T> {
 
 impl<T: Tape> Store<T> {
     /// Loads the tape's file, if it has no more bytes than the limit. A refusal gives the tape
-    /// back.
+    /// back. Each fault of the tape is told, and what failed isn't read again.
     pub fn load(alloc: Global, mut tape: T, limit: u64) -> Result<Store<T>, (StoreNo, T)>
-        requires { limit < 2 ^ 63 }
+        requires limit { limit < 2 ^ 63 }
+        requires cuts { T.loose tape ≡ false }
         ensures loads { Loads (T.told tape) limit result }
         ensures same { IfErr result (λ refused.
             (T.told refused.1 ≡ T.told tape) × (T.count tape ≤ T.count refused.1)) }
@@ -151,6 +152,10 @@ impl<T: Tape> Store<T> {
         ensures kept { IfOk result (λ store.
             (store.limit ≡ limit) × (store.told ≡ T.told tape) × (store.torn ≡ false)
             × (T.count tape ≤ store.count)) }
+        ensures once { MatchResult result
+            (λ store. store.count ≡ T.count tape)
+            (λ refused. T.count refused.1
+            ≡ counted (load_failed refused.0) (T.count tape)) }
     {
         let length = match tape.len() {
             Ok(length) => length,

@@ -34,8 +34,10 @@ use Rattle.kr_cmd_watch.specs.Watchings.{RanWatch}
 use Rattle.kr_cmd_watch.proofs.WatchEnds.{watch_stopped}
 use Rattle.kr_cmd_laws.proofs.FleetReadings.{fleet_readings}
 use Rattle.kr_cmd_laws.proofs.Leaving.{tapes_left}
+use Rattle.kr_cmd_laws.proofs.PrintedPlans.{plan_is_printed}
 use Rattle.kr_cmd_laws.proofs.Readings.{readings}
 use Rattle.kr_cmd_laws.proofs.RunHeads.{runs_have_headlines}
+use Rattle.kr_cmd_laws.specs.PlanLaws.{PlanIsPrinted}
 use Rattle.kr_cmd_laws.specs.VerifyLaws.{listening}
 use Rattle.kr_top.specs.Asked.{AloneHearing, RanFleetHearing, RanHearing, RanWatchHearing}
 use Rattle.kr_top.specs.Run.{Runs}
@@ -55,6 +57,7 @@ module _ {L : Type 0} (link : L → Link) (step : L → Exchange → L → Type 
     pub asked : RanHearing link lent took step words old new output errors status
     pub readings : Readings words old new output errors status
     pub tapes : AreLeft words old new output status
+    pub plan : PlanIsPrinted words old output status
 
 -- what it answered was told
 module _ (words : List (List ℕ)) (output errors : Receipt) (status : ℕ) (result : Result Done Stop)
@@ -78,14 +81,18 @@ module _ (words : List (List ℕ)) (output errors : Receipt) (status : ℕ) (res
       → RunsAlone link step lent took words (around w before m) (around v behind n) output errors
       status
   alone_ran link step lent took w v before behind m n answers =
-      let all = answers.talk.are (around w before m).heard in record {
-        ran = ran_by all;
+      let all = answers.talk.are (around w before m).heard in
+      let it : Ran words (around w before m) (around v behind n) output errors status =
+      ran_by all in record {
+        ran = it;
         asked = heard_so link lent took step 0 [] [] _ _ answers (λ es so. (
           ran_by (so (Some [])),
           readings _ _ _ _ _ _ result (so (Some [])) tells,
         ));
         readings = readings _ _ _ _ _ _ result all tells;
         tapes = tapes_left _ _ _ _ _ _ result all tells;
+        plan = plan_is_printed words (around w before m) (around v behind n) output errors status
+            it;
       }
 
 module _ {L : Type 0} (link : L → Link) (step : L → Exchange → L → Type 0)
@@ -137,6 +144,7 @@ module _ (T : Type 0) {L D : Type 0} (link : L → Link)
     asked = λ none. (alone none).asked;
     readings = λ none. (alone none).readings;
     tapes = λ none. (alone none).tapes;
+    plan = λ none. (alone none).plan;
     fleet = λ asked asks. (fleet asked asks).0;
     fleet_asked = λ asked asks. (fleet asked asks).1;
     fleet_readings = λ asked asks. fleet_readings T link step lent took left count asked old new

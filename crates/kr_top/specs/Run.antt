@@ -22,6 +22,7 @@ use Rattle.kr_cmd_fleet.specs.Fleets.{RanFleet}
 use Rattle.kr_cmd_gen.specs.GeneratedLoads.{RanLoad}
 use Rattle.kr_cmd_gen.specs.LoadHeadlines.{LoadHeadline}
 use Rattle.kr_cmd_gen.specs.LoadReadings.{LoadReadings}
+use Rattle.kr_cmd_laws.specs.PlanLaws.{PlanIsPrinted}
 use Rattle.kr_cmd_watch.specs.Watchings.{RanWatch}
 use Rattle.kr_top.specs.Asked.{HeadlineHearing, RanFleetHearing, RanHearing, RanWatchHearing}
 
@@ -45,6 +46,9 @@ pub record Runs (T : Type 0) {L D : Type 0} (link : L → Link)
   pub readings : AskAlone words → Readings words old new output errors status
   -- and what is left of the stores' tapes, whatever the status is
   pub tapes : AskAlone words → AreLeft words old new output status
+  -- `plan` with status 0: just the plan of the two files was printed; and its moves, done one behind
+  -- another with a rewrite that leaves nothing, are never refused and lead to `--to`
+  pub plan : AskAlone words → PlanIsPrinted words old output status
   -- `fleet`: the steps up to its workers; from there one history in which each worker's lines
   -- stand; just this journal and these replies on the output; and the status that they decide
   pub fleet : (asked : FleetWords) → AsksFleet words asked

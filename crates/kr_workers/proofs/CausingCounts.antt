@@ -32,6 +32,7 @@ use Rattle.kr_workers.specs.Runs.{DoesAll, LineDone, entries_in, replies_in}
 use Rattle.kr_workers.specs.ScriptLines.{Workplace}
 use Rattle.kr_workers.proofs.Causing.{HasCauseAt}
 use Rattle.kr_workers.proofs.CausingRewrites.{line_caused}
+use Rattle.kr_workers.proofs.DrawnJust.{all_drawn}
 
 -- ---- links to different plugins
 
@@ -247,6 +248,8 @@ often_caused {L} {D} link step left count files history part first replies after
           (stores_counted link step left count files part.replica first stands.run stands.last
           stands.does);
       drawn = dice_counted link step left count files part.replica first stands.run stands.last
+          stands.does;
+      drawn_just = all_drawn link left count files part.replica step first stands.run stands.last
           stands.does;
       asked = plugins_counted link step left count files part.replica first stands.run stands.last
           stands.does;

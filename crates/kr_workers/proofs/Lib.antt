@@ -17,6 +17,10 @@ pub mod HeardRuns
 pub mod Causing
 pub mod CausingLoads
 pub mod CausingRewrites
+pub mod ToldOnce
+pub mod ToldReads
+pub mod DrawnJust
+pub mod AskedJust
 pub mod CausingCounts
 pub mod CausingRuns
 pub mod Ends

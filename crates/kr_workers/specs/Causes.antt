@@ -1,10 +1,10 @@
 -- Why a line has its reply: each line has its defined replies; those that tell an answer an own
 -- entry bears out, and an unhealthy plugin its status; and a reply that names an object as its
 -- fault is told only where the line may use that object, and the count of that very object rose.
-use Rattle.std.specs.Prelude.{◌≡◌, ◌<◌, ◌≤◌, ◌+◌, ◌-◌, ◌^◌, ℕ, Bool, true, false, List, ◌∷◌, ◌++◌, count_by, length, Contains, Option, Some, ⊤}
+use Rattle.std.specs.Prelude.{◌≡◌, ◌<◌, ◌≤◌, ◌+◌, ◌-◌, ◌^◌, ℕ, Bool, true, false, List, [], ◌∷◌, ◌++◌, count_by, length, Contains, Option, Some, ⊤}
 use Rattle.std.specs.List.{slice_get}
 use Rattle.std.specs.Str.{bytes_eq}
-use Rattle.kr_base.specs.Faults.{Rose}
+use Rattle.kr_base.specs.Faults.{Rose, counted}
 use Rattle.kr_base.specs.Limits.{data_limit}
 use Rattle.kr_base.specs.Lines.{of_seat}
 use Rattle.kr_envelope.specs.Prefixes.{is_marked}
@@ -212,12 +212,19 @@ has_store_failed entry = is_failed entry.line.gave
 abbrev pub CountsFaults : (named before now : ℕ) → Type 0
 CountsFaults named before now = now < 2 ^ 64 - 1 → before + named ≤ now
 
+-- a count behind these replies, where it rose at each that names its object, and at no other
+abbrev pub counted_by : (names : Told → Bool) → (replies : List Told) → ℕ → ℕ
+counted_by names [] count = count
+counted_by names (reply ∷ replies) count = counted_by names replies (counted (names reply) count)
+
 -- so do the counts of a seat's random source and of its links, if these are to different plugins;
--- and the seat's own entries say at least as often that the store failed
+-- and the seat's own entries say at least as often that the store failed. The random source's count
+-- rose at each reply that names it, by one, and at no other
 pub record AreCounted {L D : Type 0} (link : L → Link) (count : D → ℕ) (replies : List Told)
     (own : List Entry) (links : List L) (dice : D) (news : List L) (after : D) : Type 0 where
   pub stored : count_by names_store replies ≤ count_by has_store_failed own
   pub drawn : CountsFaults (count_by names_dice replies) (count dice) (count after)
+  pub drawn_just : count after ≡ counted_by names_dice replies (count dice)
   pub asked : AreDistinct link links → (at : ℕ) (it now : L) → slice_get links at ≡ Some it
       → slice_get news at ≡ Some now
       → CountsFaults (count_by (tells_plugin (link it).name) replies) (link it).count

@@ -14,6 +14,7 @@ pub mod Heard
 pub mod Plugins
 pub mod Gets
 pub mod Causes
+pub mod ToldFaults
 pub mod Shapes
 pub mod Configurations
 pub mod RewriteParts

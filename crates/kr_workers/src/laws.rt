@@ -8,6 +8,7 @@ ghost use Rattle.kr_workers.specs.KeyLaws.{WorkersHoldTheirKeys};
 ghost use Rattle.kr_workers.specs.LineParts.{PartsHaveShape};
 ghost use Rattle.kr_workers.specs.Plugins.{HonestOfPlugins};
 ghost use Rattle.kr_workers.specs.Sentences.{HistoriesTell};
+ghost use Rattle.kr_workers.specs.ToldFaults.{LinesTellFaults};
 
 use kr_base::{Dice, Tape};
 use kr_kms::Kms;
@@ -26,6 +27,13 @@ pub fn gets_tell_content<L: Kms, D: Dice>()
 pub fn replies_have_causes<L: Kms, D: Dice>()
     ensures { (files : List SettingsFile)
         → RepliesHaveCauses L.link L.step D.left D.count files }
+{}
+
+/// No fault is hidden: where a draw or a plugin failed while a line was done, the reply names it, and
+/// nothing was drawn or asked behind it.
+pub fn lines_tell_faults<L: Kms, D: Dice>()
+    ensures { (files : List SettingsFile)
+        → LinesTellFaults L.link L.step D.left D.count files }
 {}
 
 /// The part of each line that was done has the shape of its line and reply: which entries it has,

@@ -1,5 +1,5 @@
 //! A tape over a file in memory, which tells its bytes.
-ghost use Rattle.std.specs.Prelude.{◌≡◌, None, Some};
+ghost use Rattle.std.specs.Prelude.{◌≡◌, None, Some, false};
 
 use kr_base::{Bytes, Failed, List, MemTape, Tape};
 use kr_edge::{FileTape, PlacedFile, PlacedNo};
@@ -82,7 +82,9 @@ impl PlacedFile for MemFile {
 }
 
 /// Whether what was put, over what stood there, is read from its second byte on.
-fn keeps<T: Tape>(tape: &mut T) -> bool {
+fn keeps<T: Tape>(tape: &mut T) -> bool
+    requires { T.loose tape.old ≡ false }
+{
     let mut into = [0u8; 8];
     tape.put_at(0, b"hello!").is_ok()
         && tape.put_at(2, b"yyy").is_ok()
@@ -96,7 +98,7 @@ fn keeps<T: Tape>(tape: &mut T) -> bool {
 /// to its length.
 fn keeps_in_memory(alloc: Global) -> bool {
     let (reads, writes) = (List::new(alloc), List::new(alloc));
-    let Ok(held) = MemTape::new(Bytes::new(alloc), 6, reads, writes) else {
+    let Ok(held) = MemTape::new(Bytes::new(alloc), 6, reads, writes, List::new(alloc)) else {
         return false;
     };
     let file = MemFile {

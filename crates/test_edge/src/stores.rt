@@ -1,5 +1,5 @@
 //! Stores as files, in the folder that the tests run in.
-ghost use Rattle.std.specs.Prelude.{◌≡◌, None};
+ghost use Rattle.std.specs.Prelude.{◌≡◌, None, false};
 
 use kr_base::{Failed, Tape, Text};
 use kr_edge::{DiskFile, FileTape, PlacedFile, PlacedNo, RealWorld, SystemFiles, open_store};
@@ -24,12 +24,16 @@ fn refusal<W: World>(world: &mut W, alloc: Global, name: &str, access: Access) -
     }
 }
 
-fn writes<T: Tape>(tape: &mut T) -> bool {
+fn writes<T: Tape>(tape: &mut T) -> bool
+    requires { T.loose tape.old ≡ false }
+{
     tape.put_at(0, b"hello!").is_ok() && tape.put_at(2, b"y").is_ok() && tape.cut(5).is_ok()
 }
 
 /// Whether what was written is there, read from its second byte on.
-fn reads<T: Tape>(tape: &mut T) -> bool {
+fn reads<T: Tape>(tape: &mut T) -> bool
+    ensures { T.loose tape.new ≡ T.loose tape.old }
+{
     let mut into = [0u8; 8];
     tape.len() == Ok(5)
         && tape.read_at(1, &mut into) == Ok(4)

@@ -17,13 +17,15 @@ pub enum Object {
     Dice(u32),
 }
 
-/// A tape's calls: those that read it, or those that write it.
+/// A tape's calls: those that read it, that write it, or that settle it.
 #[derive(Clone, Copy, PartialEq, Eq)]
 pub enum TapeCalls {
     /// To read bytes.
     Reads,
-    /// To put bytes.
+    /// To put bytes, or to cut it.
     Writes,
+    /// To settle what was written.
+    Settles,
 }
 
 /// A plugin in memory, to which there is a link of a seat.

@@ -69,12 +69,15 @@ fn named_tape(alloc: Global, case: &Case, name: &str, content: &[u8]) -> Result<
     let room = content.len().saturating_add(TAPE_ROOM);
     let reads = case.failing_tape_calls(alloc, TapeCalls::Reads, name);
     let writes = case.failing_tape_calls(alloc, TapeCalls::Writes, name);
-    let (reads, writes) = both(reads, writes)?;
+    let settles = case.failing_tape_calls(alloc, TapeCalls::Settles, name);
+    let (fails, settles) = both(both(reads, writes), settles)?;
+    let (reads, writes) = fails;
     match Bytes::copy(alloc, content) {
-        Ok(content) => MemTape::new(content, room, reads, writes),
+        Ok(content) => MemTape::new(content, room, reads, writes, settles),
         Err(NoMemory) => {
             drop(reads);
             drop(writes);
+            drop(settles);
             Err(NoMemory)
         }
     }

@@ -172,6 +172,9 @@ fn add_fails(alloc: Global, case: &mut Case, rest: &str) -> Result<(), Wrong> {
     if let Some(tape) = name.strip_prefix("writes:") {
         return add_tape_fails(alloc, case, TapeCalls::Writes, tape, numbers);
     }
+    if let Some(tape) = name.strip_prefix("settles:") {
+        return add_tape_fails(alloc, case, TapeCalls::Settles, tape, numbers);
+    }
     if name == "plugin" {
         return add_plugin_fails(case, numbers);
     }

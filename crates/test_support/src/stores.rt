@@ -43,7 +43,8 @@ fn failing_tape(
         drop(fails);
         return Err(Wrong::Form);
     }
-    Ok(MemTape::new(Bytes::from_vec(content), room, List::new(alloc), fails)?)
+    let (reads, settles) = (List::new(alloc), List::new(alloc));
+    Ok(MemTape::new(Bytes::from_vec(content), room, reads, fails, settles)?)
 }
 
 /// Adds a line for each row of the store: its revision and path, and that it was deleted, or its

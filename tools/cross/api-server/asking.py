@@ -11,6 +11,8 @@ from pathlib import Path
 sys.dont_write_bytecode = True
 TOP = Path(__file__).resolve().parents[3]
 sys.path.append(str(TOP))
+# Seconds in which a call has ended.
+PATIENCE = 600
 
 
 class NotSo(Exception):
@@ -87,7 +89,7 @@ class Ended:
 
 def kmsrest(*words: object, data: bytes = b"") -> Ended:
     called = [str(word) for word in (program(), *words)]
-    done = subprocess.run(called, input=data, capture_output=True, timeout=60, check=False)
+    done = subprocess.run(called, input=data, capture_output=True, timeout=PATIENCE, check=False)
     return Ended(done.returncode, done.stdout, done.stderr.decode(errors="replace").strip())
 
 

@@ -7,7 +7,7 @@ from pathlib import Path
 
 import differences
 from asking import NotSo, Opened, Peer, Refused, expect, open_here, seal_here
-from differences import Side, a_class
+from differences import Class, Side, a_class
 from files import PLAIN, Key, write
 
 from cryptography.hazmat.primitives.ciphers import Cipher, algorithms, modes
@@ -15,6 +15,8 @@ from cryptography.hazmat.primitives.ciphers import Cipher, algorithms, modes
 NO_ENTRY = a_class("no-entry", Side.THERE)
 LONG_PADDING = a_class("long-padding", Side.THERE)
 MARKED_DATA = a_class("marked-data", Side.THERE)
+ODD_PATH = a_class("odd-path", Side.THERE)
+LARGE_DATA = a_class("large-data", Side.THERE)
 
 NAMES = ("key1", "k", "a-b.c/d_e", "key", "key1-2")
 ENTRY_NAMES = (["secrets"], ["configmaps", "deployments.apps"], ["pandas.awesome.bears.example"])
@@ -22,6 +24,7 @@ RESOURCES = ("secrets", "configmaps", "deployments.apps", "pandas.awesome.bears.
 PATHS = ("/registry/secrets/default/db", "/registry/secrets/kube-system/a.b:c~!", "/", "/registry/" + "x" * 900)
 SIZES = (0, 1, 15, 16, 17, 31, 32, 33, 1000, 70_000)
 LARGE = 700_000
+MOST_DATA, USAGE = 2_097_152, "kmsrest: usage: kmsrest COMMAND OPTIONS"
 FOREIGN = (b"k8s:enc:", b"k8s:enc:secretbox:v1:key1:" + bytes(60), b"k8s:enc:kms:v1:p:" + bytes(60), b"k8s:enc:aescbc:v1:")
 FOREIGN += (b"k8s:enc:aescbc:v2:key1:" + bytes(32), b"k8s:enc:aesgcm:v1:key1:", b"K8S:enc:aescbc:v1:key1:", b"", b"k8s:en", b"\0")
 
@@ -179,6 +182,9 @@ class BothWays:
         for number, it in enumerate(self.kept):
             self.turned(it, number)
             self.own_cases(it)
+        for path in ("/registry/secrets/d/a b", "/registry/secrets/d/\u00e9", "/registry/" + "x" * 1015):
+            self.sealed_there(ODD_PATH, path, b"k8s\0", USAGE)
+        self.sealed_there(LARGE_DATA, PATHS[0], bytes(MOST_DATA + 1), f"kmsrest: limit data {MOST_DATA}")
 
     def own_cases(self, it: Kept) -> None:
         """What chance hardly makes: long paddings, bodies of an IV alone, large data, and data that begin as sealed ones."""
@@ -197,6 +203,15 @@ class BothWays:
         here, there = seal_here(it.file, resource, PATHS[0], data), self.peer.seal(it.name, resource, PATHS[0], data)
         expect((here, there) == (Refused("kmsrest: refused 13 LooksEncrypted"), data), f"marked data: {here}, {there}")
         self.counts.classes[MARKED_DATA] += 1
+
+    def sealed_there(self, named: Class, path: str, data: bytes, why: str) -> None:
+        """What the API server's code seals and opens again, and kmsrest refuses to seal."""
+        it = self.kept[0]
+        resource = next(iter(it.keys))
+        value = self.peer.seal(it.name, resource, path, data)
+        found = (seal_here(it.file, resource, path, data), self.peer.open(it.name, resource, path, value))
+        expect(found == (Refused(why), Opened(data, False)), f"{named.name} at {path[:40]}: {found[0]}")
+        self.counts.classes[named] += 1
 
     def large(self, it: Kept) -> None:
         data, resource = self.draw.randbytes(LARGE), self.draw.choice(list(it.keys))
@@ -232,7 +247,7 @@ def check(peer: Peer, folder: Path, seed: int) -> Counts:
     sorts = [(kind, size) for kind in ("aescbc", "aesgcm") for size in (16, 24, 32)] + [(PLAIN.kind, 0)]
     missing = {Met(*sort, is_stale, is_here) for sort in sorts for is_stale in (False, True) for is_here in (False, True)} - both.counts.met
     expect(not missing, f"not met: {missing}")
-    for wanted in (NO_ENTRY, LONG_PADDING, MARKED_DATA):
+    for wanted in (NO_ENTRY, LONG_PADDING, MARKED_DATA, ODD_PATH, LARGE_DATA):
         if not both.counts.classes[wanted]:
             raise NotSo(f"no value of the class {wanted.name} was met")
     return both.counts

@@ -62,6 +62,7 @@ FILES = (
     ("provider-twice", HEAD + entry(keys("aescbc", ("key1", SECRET), ("key1", "AQIDBAUGBwgJCgsMDQ4PEA==")))),
     ("provider-twice", HEAD + entry(IDENTITY, ONE, IDENTITY)),
     ("limits", HEAD + MANY),
+    ("limits", HEAD + entry(IDENTITY) + "#" + "x" * 1_048_576 + "\n"),
     ("null-pattern", HEAD + entry(IDENTITY, resources="[secrets, null]")),
     ("null-element", HEAD + entry(IDENTITY + "\n    aescbc: null")),
     ("null-element", HEAD + entry(IDENTITY + "\n    kms:")),

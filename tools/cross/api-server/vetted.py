@@ -4,7 +4,7 @@ import os
 import subprocess
 from pathlib import Path
 
-from asking import TOP, expect
+from asking import PATIENCE, TOP, expect
 from differences import ALL, Side
 from own_files import OWN
 
@@ -25,7 +25,7 @@ def check(folder: Path, version: str) -> int:
         file.write_bytes(content)
         os.chmod(file, 0o600)
         words = [VET, "--kubernetes", minor(version), os.devnull, file]
-        told = subprocess.run(words, capture_output=True, text=True, timeout=60, check=False).stdout
+        told = subprocess.run(words, capture_output=True, text=True, timeout=PATIENCE, check=False).stdout
         expect(any(f": {name}: " in line for line in told.splitlines()), f"kmsrest-vet doesn't tell {name} of {content!r}, but {told}")
         count += 1
     return count

@@ -71,6 +71,7 @@ FAILING = [
     ("put of one aescbc key", "the first read of the input", PUT, ("input", 1), "fault input 1", 0),
     ("put of one aescbc key", "the first draw", PUT, ("dice:0", 1), "fault dice 0 1", 0),
     ("put of one aescbc key", "the first write on the store", PUT, ("writes:s", 1), "fault store 1", None),
+    ("put of one aescbc key", "the first settling of the store", PUT, ("settles:s", 1), "fault store 1", 1),
     ("put of one aescbc key", "the first write on the output", PUT, ("output", 1), "fault output 1", 1),
     ("decrypt of an aescbc value by identity", "the first write on the errors", REFUSED, ("errors", 1), "", None),
     ("encrypt by a plugin", "the plugin's status", SEALED, ("plugin", 1), "fault plugin p 1", None),

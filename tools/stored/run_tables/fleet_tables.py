@@ -289,6 +289,12 @@ def add_faults(book):
     fleet(book, "dice_ends", ["a one"], lines + [f"put secrets /t {DATA}"], drawn=bytes(20))
     for number in range(1, 4):
         fleet(book, f"writes_{number}", ["a one"], lines + [f"put secrets /t {DATA}", "delete /s"], fails=(("writes:s", number),))
+    for numbers in ("1", "2", "3", "1 2", "1 2 3"):
+        # behind a failed put the tape is cut and settled, and all is settled at the end
+        named = numbers.replace(" ", "_")
+        fleet(book, f"settles_{named}", ["a one"], lines + [f"put secrets /t {DATA}", "delete /s"], fails=(("writes:s", 1), ("settles:s", numbers)))
+    fleet(book, "settle", ["a one"], lines, fails=(("settles:s", 1),))
+    fleet(book, "cut", ["a one"], lines + [f"put secrets /t {DATA}", "delete /t"], fails=(("writes:s", "1 2"),))
     fleet(book, "write_in_a_rewrite", ["a one"], ["rewrite", "rewrite"], written(2, [put("/s", b"hi", check=bytes(8))]), fails=(("writes:s", 1),))
     for number in (1, 2):
         fleet(book, f"reads_{number}", ["a one"], lines, written(2, [put("/s", b"hi", check=bytes(8))]), fails=(("reads:s", number),))

@@ -92,6 +92,9 @@ def add_faults(book):
     migrate(book, "fault_of_the_line", TWO, fails=(("errors", 4),))
     migrate(book, "input_is_not_read", ONE, fails=(("input", 1),))
     migrate(book, "source_is_not_written", rows=ROWS, text=ALL, fails=(("writes:s", 1),))
+    migrate(book, "source_is_not_settled", rows=ROWS, text=ALL, fails=(("settles:s", 1),))
+    migrate(book, "fault_settle", rows=ROWS, text=ALL, target=b"", fails=(("settles:t", 1),))
+    migrate(book, "failed_write_settles_nothing", rows=ROWS, text=ALL, target=b"", fails=(("writes:t", 2), ("settles:t", 1)))
 
 
 CAUSES = {

@@ -161,6 +161,9 @@ def add_faults(book):
         rewrite(book, f"fault_output_{number}_of_a_cut_drive", rows, fails=(("output", number), ("writes:s", 2)))
     rewrite(book, "output_without_room", rows, room=4)
     rewrite(book, "fault_of_the_line", rows, fails=(("writes:s", 2), ("errors", 4)))
+    rewrite(book, "fault_settle", rows, fails=(("settles:s", 1),))
+    rewrite(book, "fault_settle_of_a_cut_drive", rows, fails=(("writes:s", 2), ("settles:s", 1)))
+    rewrite(book, "stop_before_its_rows_settles_nothing", rows, fails=(("files", 3), ("settles:s", 1)))
     rewrite(book, "input_is_not_read", rows, fails=(("input", 1),))
     rewrite(book, "again_after_a_fault", rows + [sealed("/a", BY_2)])
 

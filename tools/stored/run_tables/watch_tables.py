@@ -352,6 +352,8 @@ def add_faults(book):
         watch(book, f"fault_writes_{number}", ["a one"], lines, content=stored, fails=(("writes:s", number),))
         watch(book, f"fault_writes_{number}_since", ["a one"], lines, "--since", "1", content=stored, fails=(("writes:s", number),))
         watch(book, f"fault_dice_{number}", ["a one"], lines, content=stored, fails=(("dice:0", number),))
+    watch(book, "fault_settle", ["a one"], lines, content=stored, fails=(("settles:s", 1),))
+    watch(book, "fault_settle_behind_a_cut", ["a one"], lines, content=stored, fails=(("writes:s", 1), ("settles:s", 1)))
     watch(book, "fault_writes_of_a_delete", ["a one"], [lines[0], "delete /s", "delete /a"], content=stored, fails=(("writes:s", 2),))
     watch(book, "no_dice", ["a one"], lines, drawn=None)
     watch(book, "dice_ends", ["a one"], lines, drawn=bytes(20))

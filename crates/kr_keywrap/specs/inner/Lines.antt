@@ -2,7 +2,7 @@
 use Rattle.std.specs.Prelude.{◌≡◌, ◌≢◌, ℕ, ◌+◌, ◌<◌, ◌≤◌, ◌⊎◌, List, [], ◌∷◌, ◌++◌, All, length, take, slice_index, Option, Some, None, Result, Ok, Err}
 use Rattle.std.specs.Io.KnownBytes.{Appends, Consumes, IsAtEnd}
 use Rattle.kr_keywrap.specs.Answer.{Plugin, answer}
-use Rattle.kr_keywrap.specs.Serving.{HasNoBreak, IsWholeLine, StopsThere, answers, last_line, line_limit, served_text}
+use Rattle.kr_keywrap.specs.Serving.{CountsFaults, HasNoBreak, IsWholeLine, StopsThere, answers, last_line, line_limit, served_text}
 use Rattle.kr_keywrap.specs.declared.serving.Next.{Next}
 use Rattle.kr_keywrap.specs.declared.serving.Next.TheVariants.{Answered, Ended}
 use Rattle.kr_keywrap.specs.declared.serving.Served.{Served}
@@ -122,6 +122,12 @@ ServesNext plugin left held_old held all new SourceRises SinkRises (Err NoMemory
 ServesNext plugin left held_old held all new SourceRises SinkRises (Err TooLong) =
     Passes held_old held all
 ServesNext plugin left held_old held all new SourceRises SinkRises (Err Done) = ⊥
+
+-- the counts behind it: none rose where it was answered
+abbrev pub CountsNext : Result Next Served → (source_old source sink_old sink : ℕ) → Type 0
+CountsNext (Ok next) source_old source sink_old sink = (source ≡ source_old) × (sink ≡ sink_old)
+CountsNext (Err why) source_old source sink_old sink =
+    CountsFaults why source_old source sink_old sink
 
 -- the same with the bytes that were taken
 pub record ServesOne (plugin : Plugin) (left_old left held_old held : Option (List ℕ))

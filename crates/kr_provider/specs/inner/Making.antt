@@ -1,5 +1,5 @@
 -- How seeds are made: one by one, and all.
-use Rattle.std.specs.Prelude.{◌≡◌, ℕ, List, [], Option, Result, Ok, Err}
+use Rattle.std.specs.Prelude.{◌≡◌, ℕ, ◌⊎◌, List, [], Option, Result, Ok, Err}
 use Rattle.kr_config.specs.Kept.{ConfigEntry, plugins_in}
 use Rattle.kr_kms.specs.Calls.{Link}
 use Rattle.kr_kms.specs.Exchanges.{Exchange}
@@ -29,7 +29,7 @@ module _ {L D : Type 0} (link : L → Link) (left : D → Option (List ℕ))
   MakesAt name links dice (Err (Unhealthy other field text)) new after = (other ≡ name)
       × MakesOne name links dice (Err (seed.Unhealthy field text)) new after
   MakesAt name links dice (Err NoMemory) new after =
-      (answer : Result SeedRow SeedNo) × MakesOne name links dice answer new after
+      MakesOne name links dice (Err seed.NoMemory) new after ⊎ ((new ≡ links) × (after ≡ dice))
 
   -- as publishing answers, with the list of the seeds and its room
   abbrev pub MakesAll : List ConfigEntry → List L → D → Result (List SeedRow × ℕ) PublishNo → List L
@@ -41,10 +41,15 @@ module _ {L D : Type 0} (link : L → Link) (left : D → Option (List ℕ))
       Publishes link left count rows links dice (Err why) new after
 
 module _ {D : Type 0} (left : D → Option (List ℕ)) (count : D → ℕ) where
-  -- the exchanges with the plugin of this name, and what of it is told
+  -- the exchanges with the plugin of this name, and what of it is told; none where there was no
+  -- memory for its name
   abbrev pub MakesOneBy : List ℕ → D → Result SeedRow PublishNo → D → List Exchange → Type 0
-  MakesOneBy name dice result after exchanges = (answer : Result SeedRow SeedNo)
-      × MakesSeedBy left count name dice answer after exchanges × IsToldAt name answer result
+  MakesOneBy name dice (Ok row) after exchanges = (answer : Result SeedRow SeedNo)
+      × MakesSeedBy left count name dice answer after exchanges × IsToldAt name answer (Ok row)
+  MakesOneBy name dice (Err why) after exchanges = ((answer : Result SeedRow SeedNo)
+      × MakesSeedBy left count name dice answer after exchanges
+      × IsToldAt {T = SeedRow} name answer (Err why))
+      ⊎ ((why ≡ NoMemory) × (after ≡ dice) × (exchanges ≡ []))
 
   -- with all plugins that the entries name
   abbrev pub MakesAllBy : List ConfigEntry → D → Result (List SeedRow × ℕ) PublishNo → D

@@ -29,7 +29,7 @@ IsJudgement board replica p (judgement.Refused told kept) = (told ≡ verdict bo
 -- the configuration is the next generation, and the replica's current one
 abbrev pub with_generation : RolloutState → (replica : ℕ) → Publication → RolloutState
 with_generation c replica p =
-    record { opening = c.opening; state = with_configuration c.state replica p }
+    record { opening = c.opening; state = with_configuration c.state replica p; torn = c.torn }
 
 -- the event by which a replica is given a configuration
 abbrev pub brought : Bringing → (replica : ℕ) → Publication → Event

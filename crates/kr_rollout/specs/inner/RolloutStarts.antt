@@ -11,5 +11,6 @@ use Rattle.kr_rollout.specs.inner.Rollouts.{RolloutState}
 -- a rollout at its opening, with which a history may begin
 abbrev pub StartsRollout : {S : Type 0} → Opening → Result RolloutState (StartNo × S) → Type 0
 StartsRollout o (Ok course) = IsLegal o [] ×
-    MayStart o.rows (settings_of o.replicas) × (course ≡ record { opening = o; state = start_of o })
+    MayStart o.rows (settings_of o.replicas)
+    × (course ≡ record { opening = o; state = start_of o; torn = o.torn })
 StartsRollout o (Err (why, store)) = IsNoStart o.rows (settings_of o.replicas) why

@@ -1,5 +1,5 @@
 -- What the core keeps beside its journal, and how it serves an event.
-use Rattle.std.specs.Prelude.{◌≡◌, ℕ, ◌<◌, ◌≤◌, ◌+◌, ◌⊎◌, Bool, true, List, [], length, get_or, take, map, Option, None, Some, IsSome}
+use Rattle.std.specs.Prelude.{◌≡◌, ℕ, ◌<◌, ◌≤◌, ◌+◌, ◌⊎◌, Bool, List, [], length, get_or, take, map, Option, None, Some, IsSome}
 use Rattle.std.specs.List.{slice_get}
 use Rattle.std.specs.Option.{option_map}
 use Rattle.kr_base.specs.Rules.{IsPath, IsResource}
@@ -18,19 +18,20 @@ use Rattle.kr_rollout.specs.declared.line.Gave.{Gave}
 use Rattle.kr_rollout.specs.declared.line.Line.{Line}
 use Rattle.kr_rollout.specs.declared.opening.Entry.{Entry}
 use Rattle.kr_rollout.specs.declared.opening.Opening.{Opening}
-use Rattle.kr_base.specs.Faults.{Rose}
 use Rattle.kr_base.specs.Lines.{of_seat}
 use Rattle.kr_rollout.specs.Entries.{entry_of, published_at, seat_of}
 use Rattle.kr_rollout.specs.States.{State, number_at, held_by}
 use Rattle.kr_rollout.specs.Openings.{board, opening_by, room_of, NamesAmong}
-use Rattle.kr_rollout.specs.Steps.{IsStep, after}
-use Rattle.kr_rollout.specs.Histories.{IsLegal, state_of}
+use Rattle.kr_rollout.specs.Steps.{IsStep, after, tears}
+use Rattle.kr_rollout.specs.Histories.{IsLegal, ends_torn, state_of}
 use Rattle.kr_rollout.specs.Callers.{IsResealing, Records, reloads_in}
 
--- what a rollout began with, and its state
+-- what a rollout began with, its state, and whether a write has failed since the last one that was
+-- done
 pub record RolloutState : Type 0 where
   pub opening : Opening
   pub state : State
+  pub torn : Bool
 
 -- the opening's rows are the first ones of the store
 abbrev pub opening_of : Kept → ℕ → List (Option Publication) → List (List ℕ) → List ℕ → ℕ → Bool
@@ -73,12 +74,6 @@ pub record IsRollout (o : Opening) (st : State) (kept : BoardState) : Type 0 whe
   pub seats : length st.held ≡ length o.reloads
   pub few : length o.reloads ≤ 64
 
--- the store's faults beside those at the start: their count never falls, and it rose since then
--- where a write has failed since then
-pub record KeepsFaults (torn : Bool) (count : ℕ) (store : Kept) : Type 0 where
-  pub later : count ≤ store.count
-  pub torn_since : store.torn ≡ true → (torn ≡ true) ⊎ Rose count store.count
-
 -- the seat holds one of the generations
 abbrev pub HoldsOne : (held : List (Option ℕ)) → List Generation → (seat : ℕ) → Type 0
 HoldsOne held generations seat = (seat < length held)
@@ -117,13 +112,15 @@ line_now st seat did gave =
     record { seat = seat; did = did; held = held_by st seat; gave = gave; faults = st.count }
 
 -- the line's entry is a step and records the event and its answer, and the state is the one after
--- it
+-- it; a write has failed since the last one that was done where the answer or the time before says
+-- so
 pub record Serves (old : RolloutState) (seat : ℕ) (event : Event) (answer : Answer) (line : Line)
     (new : RolloutState) : Type 0 where
   pub opening : new.opening ≡ old.opening
   pub state : new.state ≡ after old.state (entry_of new.state.rows new.state.generations line)
   pub step : IsStep old.opening old.state (entry_of new.state.rows new.state.generations line)
   pub records : Records seat event answer (entry_of new.state.rows new.state.generations line)
+  pub torn : new.torn ≡ tears line.gave old.torn
 
 -- the entries of lines, as the state has what they name
 abbrev pub entries_by : State → List Line → List Entry
@@ -135,9 +132,12 @@ KeepsBudgets o history =
     (seat : ℕ) → reloads_in (of_seat seat_of seat history) ≤ get_or o.reloads seat 0
 
 -- what holds of a core: its lines are a legal history that leads to the state, within the seats'
--- budgets, and there is room for more
-pub record IsCore (o : Opening) (st : State) (lines : List Line) (spare room : ℕ) : Type 0 where
+-- budgets, by which it is known whether a write has failed since the last one that was done, and
+-- there is room for more
+pub record IsCore (o : Opening) (st : State) (torn : Bool) (lines : List Line) (spare room : ℕ)
+    : Type 0 where
   pub legal : IsLegal o (entries_by st lines)
   pub leads : st ≡ state_of o (entries_by st lines)
+  pub ends : torn ≡ ends_torn o (entries_by st lines)
   pub budgets : KeepsBudgets o (entries_by st lines)
   pub room_in : room ≤ length lines + spare

@@ -1,10 +1,10 @@
 -- Reading a tape from front to back, part by part.
-use Rattle.std.specs.Prelude.{◌≡◌, ◌≢◌, ℕ, ◌+◌, ◌<◌, ◌≤◌, ◌⊎◌, List, ◌∷◌, ◌++◌, length, take, Option, None, IfSome, Result, IsErrOf, Ok, Err, ⊤}
+use Rattle.std.specs.Prelude.{◌≡◌, ◌≢◌, ℕ, ◌+◌, ◌<◌, ◌≤◌, ◌⊎◌, List, ◌∷◌, ◌++◌, length, take, Option, None, IfSome, IsTrue, Bool, true, false, Result, Ok, Err, ⊤}
 use Rattle.std.specs.Prelude.{Vec}
 use Rattle.std.specs.declared.alloc.Global.{Global}
 use Rattle.std.specs.Int.{w64, to_be_bytes}
 use Rattle.std.specs.Io.KnownBytes.{Consumes}
-use Rattle.kr_base.specs.Faults.{Rose}
+use Rattle.kr_base.specs.Faults.{Rose, counted, tells_fault}
 use Rattle.kr_base.specs.Told.{Agrees}
 use Rattle.kr_store.specs.declared.format.Check.{Check}
 use Rattle.kr_store.specs.declared.format.Format.{Format}
@@ -32,19 +32,25 @@ pub record Ahead : Type 0 where
   pub end : ℕ
   pub count : ℕ
 
--- reading leaves the tape as it is
-pub record Moves (old new : Ahead) : Type 0 where
+-- reading leaves the tape as it is; its count rose by one where it failed, and else it is as before
+pub record Moves (failed : Bool) (old new : Ahead) : Type 0 where
   pub told : new.told ≡ old.told
   pub end : new.end ≡ old.end
   pub within : new.place ≤ new.end
   pub known : IfSome new.left (λ bytes. new.place + length bytes ≡ new.end)
   pub later : old.count ≤ new.count
+  pub rose : IsTrue failed → Rose old.count new.count
+  pub once : new.count ≡ counted failed old.count
 
--- reading leaves the tape as it is, and where it answers that the tape failed, its count rose
-pub record Advances {A E : Type 0} (failure : E) (old new : Ahead) (result : Result A E)
-    : Type 0 where
-  pub moves : Moves old new
-  pub failed : IsErrOf result failure → Rose old.count new.count
+-- reading leaves the tape as it is, and its count rose exactly where it answers that the tape failed
+abbrev pub Advances : {A E : Type 0} → (E → Bool) → Ahead → Ahead → Result A E → Type 0
+Advances is_fault old new result = Moves (tells_fault is_fault result) old new
+
+-- whether reading stops since the tape failed
+abbrev pub stop_failed : LoadStop → Bool
+stop_failed (Breach cause) = false
+stop_failed Failed = true
+stop_failed NoMemory = false
 
 -- bytes that may be those that are left can't be read so
 pub record Breaks {A : Type 0} (old : Ahead) (reads : List ℕ → Read A) (cause : Cause)
@@ -142,7 +148,7 @@ Gives old new written reads (Err NoMemory) = ⊤
 -- a part was read, whose bytes are these, or it can't be read: and the tape stays as it is
 pub record Reads {A B : Type 0} (old new : Ahead) (written : A → List ℕ)
     (reads : List ℕ → Read B) (result : Result A LoadStop) : Type 0 where
-  pub advances : Advances Failed old new result
+  pub advances : Advances stop_failed old new result
   pub gives : Gives old new written reads result
 
 -- the bytes that are written for what was read

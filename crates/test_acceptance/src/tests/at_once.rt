@@ -48,7 +48,8 @@ fn files(alloc: Global) -> Result<List<(Text, Bytes)>, NoMemory> {
 
 fn tape(alloc: Global) -> Result<MemTape, NoMemory> {
     let rows = Bytes::copy(alloc, ROWS)?;
-    MemTape::new(rows, 4096, List::new(alloc), List::new(alloc))
+    let none = List::new(alloc);
+    MemTape::new(rows, 4096, List::new(alloc), List::new(alloc), none)
 }
 
 fn tapes(alloc: Global) -> Result<List<(Text, MemTape)>, NoMemory> {

@@ -21,7 +21,8 @@ const DIGESTS: [&str; 4] = [
 /// A world with an empty tape `s`, whose first put fails.
 fn world(alloc: Global) -> Result<MemWorld<TablePlugin>, NoMemory> {
     let fails = list_of_one(alloc, 1u64)?;
-    let tape = MemTape::new(Bytes::new(alloc), 65536, List::new(alloc), fails);
+    let settles = List::new(alloc);
+    let tape = MemTape::new(Bytes::new(alloc), 65536, List::new(alloc), fails, settles);
     let tapes = list_of_one(alloc, both(Text::copy(alloc, "s"), tape)?)?;
     let none = List::new(alloc);
     Ok(MemWorld::new(alloc, none, tapes, List::new(alloc), List::new(alloc), 0))

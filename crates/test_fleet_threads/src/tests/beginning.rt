@@ -1,5 +1,5 @@
 //! A core over a store of two rows, with one replica and two seats.
-ghost use Rattle.std.specs.Prelude.{◌≡◌, ◌∷◌, [], IfSome};
+ghost use Rattle.std.specs.Prelude.{◌≡◌, ◌∷◌, [], false, IfSome};
 ghost use Rattle.test_fleet_threads.specs.Ready.{IsNamed, IsNewCore, one_name};
 
 use crate::tests::published::published;
@@ -25,11 +25,14 @@ pub fn core(alloc: Global) -> Option<Core<MemTape>>
 /// The store with both rows, whose file may have 1,000 bytes.
 fn store(alloc: Global) -> Option<Store<MemTape>> {
     let rows = Bytes::copy(alloc, ROWS).ok()?;
-    let tape = MemTape::new(rows, 1000, List::new(alloc), List::new(alloc)).ok()?;
+    let none = List::new(alloc);
+    let tape = MemTape::new(rows, 1000, List::new(alloc), List::new(alloc), none).ok()?;
     loaded(alloc, tape)
 }
 
-fn loaded<T: Tape + Drop>(alloc: Global, tape: T) -> Option<Store<T>> {
+fn loaded<T: Tape + Drop>(alloc: Global, tape: T) -> Option<Store<T>>
+    requires { T.loose tape ≡ false }
+{
     match Store::load(alloc, tape, 1000) {
         Ok(store) => Some(store),
         Err(_) => None,

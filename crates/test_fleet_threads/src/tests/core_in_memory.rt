@@ -76,7 +76,8 @@ fn replicas(alloc: Global) -> Option<List<Option<Shared<Published>>>>
 
 /// An empty store, whose file may have 1,000 bytes.
 fn store(alloc: Global) -> Option<Store<MemTape>> {
-    let tape = MemTape::new(Bytes::new(alloc), 1000, List::new(alloc), List::new(alloc)).ok()?;
+    let (reads, writes, settles) = (List::new(alloc), List::new(alloc), List::new(alloc));
+    let tape = MemTape::new(Bytes::new(alloc), 1000, reads, writes, settles).ok()?;
     Store::load(alloc, tape, 1000).ok()
 }
 

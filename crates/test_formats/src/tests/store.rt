@@ -32,7 +32,7 @@ fn tape(alloc: Global, bytes: &[u8], write_fails: &[u64]) -> Option<MemTape> {
     if content.as_slice().len() > 40_000 {
         return None;
     }
-    MemTape::new(content, 40_000, List::new(alloc), writes).ok()
+    MemTape::new(content, 40_000, List::new(alloc), writes, List::new(alloc)).ok()
 }
 
 /// The store of such a tape, with the limit 40,000.

@@ -263,7 +263,7 @@ fn keeps_places(tape: &mut MemTape) -> bool {
 
 fn keeps(alloc: Global) -> Option<bool> {
     let (content, fails) = both(Bytes::copy(alloc, b"abcdef"), one(alloc, 2)).ok()?;
-    let mut tape = MemTape::new(content, 8, List::new(alloc), fails).ok()?;
+    let mut tape = MemTape::new(content, 8, List::new(alloc), fails, List::new(alloc)).ok()?;
     let is = keeps_places(&mut tape);
     drop(tape);
     Some(is)

@@ -1,6 +1,6 @@
 -- `add_delete`: each answer of the store ends the steps of one more row.
 use Rattle.kr_store.specs.Rows.{delete_of}
-use Rattle.kr_cmd_steps.proofs.Adding.{deleted_so, gone, one_more, row_added, row_refused, rows_kept, unchanged, undeleted_so}
+use Rattle.kr_cmd_steps.proofs.Adding.{deleted_so, gone, one_more, refused_counted, row_added, row_refused, rows_kept, unchanged, undeleted_so}
 use Rattle.kr_cmd_steps.proofs.stores.add_delete.Goals as goal
 
 pub returns-in-Ok-Some-clause-does : goal.returns-in-Ok-Some-clause-does
@@ -43,3 +43,17 @@ returns-in-Err-clause-kept g c = rows_kept c.args.store.now c.delete-written.new
     (delete_of c.args.path.now) c.in-Err.why
     (undeleted_so c.args.store.now c.delete-written.new.self c.args.path.now c.in-Err.why
     c.delete-written.ensures c.in-Err.is)
+
+pub returns-in-Ok-Some-clause-once : goal.returns-in-Ok-Some-clause-once
+returns-in-Ok-Some-clause-once g c =
+    let found = rw c.in-Ok-Some.is at c.in-Ok-Some.field-0-is in
+    (deleted_so c.args.store.now c.delete-written.new.self c.args.path.now
+    c.in-Ok-Some._revision c.delete-written.ensures c.in-Ok-Some.is found).same_count
+
+pub returns-in-Err-clause-once : goal.returns-in-Err-clause-once
+returns-in-Err-clause-once g c =
+    let new = c.delete-written.new.self in
+    refused_counted c.args.store.now new (delete_of c.args.path.now) c.args.object c.faults.result
+    c.in-Err.why c.write_stop.result
+    (undeleted_so c.args.store.now new c.args.path.now c.in-Err.why c.delete-written.ensures
+    c.in-Err.is) c.write_stop.ensures

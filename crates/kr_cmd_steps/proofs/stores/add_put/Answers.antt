@@ -1,6 +1,6 @@
 -- `add_put`: each answer of the store ends the steps of one more row.
 use Rattle.kr_store.specs.Rows.{check_in, put_of}
-use Rattle.kr_cmd_steps.proofs.Adding.{one_more, refused_so, row_added, row_refused, rows_kept, unchanged}
+use Rattle.kr_cmd_steps.proofs.Adding.{one_more, refused_counted, refused_so, row_added, row_refused, rows_kept, unchanged}
 use Rattle.kr_cmd_steps.proofs.stores.add_put.Goals as goal
 
 pub returns-in-Ok-clause-does : goal.returns-in-Ok-clause-does
@@ -32,3 +32,15 @@ returns-in-Err-clause-kept g c = rows_kept c.args.store.now c.put-written.new.se
     (put_of c.args.path.now c.args.resource.now c.args.stored
     (check_in c.args.store.now.format c.args.check)) c.in-Err.why
     (refused_so c.args.store.now c.put-written.new.self _ c.put-written.ensures c.in-Err.is)
+
+pub returns-in-Ok-clause-once : goal.returns-in-Ok-clause-once
+returns-in-Ok-clause-once g c = c.in-Ok.ensures.same_count
+
+pub returns-in-Err-clause-once : goal.returns-in-Err-clause-once
+returns-in-Err-clause-once g c =
+    let row = put_of c.args.path.now c.args.resource.now c.args.stored
+    (check_in c.args.store.now.format c.args.check) in
+    let new = c.put-written.new.self in
+    refused_counted c.args.store.now new row c.args.object c.faults.result c.in-Err.why
+    c.write_stop.result (refused_so c.args.store.now new row c.put-written.ensures c.in-Err.is)
+    c.write_stop.ensures

@@ -3,7 +3,7 @@ use Rattle.kr_cmd_steps.specs.Phases.{stored_on}
 use Rattle.kr_cmd_steps.specs.inner.Lent.{with_lent_tape}
 use Rattle.kr_cmd_steps.specs.inner.Phases.{Does}
 use Rattle.kr_cmd_steps.specs.inner.Tapes.{load_stop}
-use Rattle.kr_cmd_steps.proofs.Loading.{gives_store, refuses_store}
+use Rattle.kr_cmd_steps.proofs.Loading.{gives_store, load_counted, refuses_store}
 use Rattle.kr_cmd_steps.proofs.stores.load_store.Goals as goal
 
 pub returns-in-Ok-clause-ok : goal.returns-in-Ok-clause-ok
@@ -37,3 +37,8 @@ returns-in-Err-clause-err g c name a =
     ∙ sym c.load_stop.ensures)
     (refuses_store name told before a c.args.object c.in-Err.tape back count c.in-Err.why
     c.in-Err.ensures.loads c.in-Err.ensures.same.0 c.in-Err.ensures.same.1 c.in-Err.ensures.failed)
+
+pub returns-in-Err-clause-once : goal.returns-in-Err-clause-once
+returns-in-Err-clause-once g c = load_counted (g.T.Tape.count c.args.tape)
+    (g.T.Tape.count c.in-Err.tape) c.args.object c.faults-faults.result c.in-Err.why
+    c.load_stop.result c.in-Err.ensures.once c.load_stop.ensures

@@ -11,14 +11,18 @@ returns-then-at-count-clause-ok g c = (
       c.in-Some.at c.loop-filled.invariant c.in_ok-count.ensures.bytes
       c.in_ok-count.ensures.bound (omega arith)
       (sym c.in_ok-count.ensures.first ∙ c.in-Some.is),
+  c.in_ok-count.ensures.cause.once ∙ c.loop-filled.invariant.calm,
 )
 
 pub loop-filled-preserved : goal.loop-filled-preserved
 loop-filled-preserved g c = filled_more _ c.read_piece.new.into _ _ c.loop-filled.invariant
     c.in_ok-count.ensures.bytes c.in_ok-count.ensures.bound (omega arith)
-    (sym c.in_ok-count.ensures.first ∙ c.in-None.is) c.in_ok-count.ensures.cause.later
+    (sym c.in_ok-count.ensures.first ∙ c.in-None.is) c.in_ok-count.ensures.cause.once
 
 pub returns-in-Some-clause-err : goal.returns-in-Some-clause-err
-returns-in-Some-clause-err g c = inr (line_goes_on _ c.read_piece.new.into c.in_ok-count.count
-    c.in-Some.at _ c.loop-filled.invariant c.in_ok-count.ensures.bytes c.in_ok-count.ensures.bound
-    c.if-at-count.false (sym c.in_ok-count.ensures.first ∙ c.in-Some.is))
+returns-in-Some-clause-err g c = inr (
+  line_goes_on _ c.read_piece.new.into c.in_ok-count.count c.in-Some.at _ c.loop-filled.invariant
+      c.in_ok-count.ensures.bytes c.in_ok-count.ensures.bound c.if-at-count.false
+      (sym c.in_ok-count.ensures.first ∙ c.in-Some.is),
+  c.in_ok-count.ensures.cause.once ∙ c.loop-filled.invariant.calm,
+)

@@ -3,7 +3,7 @@ use Rattle.std.proofs.Common.{length, ◌-◌, ◌∙◌, subst, arith}
 use Rattle.kr_edge.specs.Placed.{ReadsSome}
 use Rattle.kr_edge.proofs.Lines.{mid_long}
 use Rattle.kr_edge.proofs.Pieces.{filled_more}
-use Rattle.kr_edge.proofs.Stops.{more_often}
+use Rattle.kr_edge.proofs.Stops.{more_often, none_more}
 use Rattle.kr_edge.proofs.tape.fill_buffer.Goals as goal
 
 pub loop-filled-preserved : goal.loop-filled-preserved
@@ -24,4 +24,9 @@ loop-filled-preserved g c =
           (subst (λ o. ReadsSome o c.in-Some.place n piece) c.loop-filled.invariant.told
           c.in_ok-n.ensures.bytes);
       later = more_often 0 0 _ _ _ c.loop-filled.invariant.later c.read_again.ensures.later;
+      calm = none_more _ _ _ c.loop-filled.invariant.calm c.in_ok-n.ensures.once;
     }
+
+pub returns-then-n-eq0-clause-once : goal.returns-then-n-eq0-clause-once
+returns-then-n-eq0-clause-once g c =
+    none_more _ _ _ c.loop-filled.invariant.calm c.in_ok-n.ensures.once

@@ -1,5 +1,6 @@
 -- The buffer keeps its length, what was filled are bytes of the file, and no read failed.
 use Rattle.std.proofs.Common.{◌≡◌, ◌-◌, ◌≤◌, length}
+use Rattle.kr_edge.specs.Placed.{NoneFailed}
 use Rattle.kr_edge.specs.inner.Stops.{WasInterrupted}
 use Rattle.kr_edge.proofs.Pieces.{IsFilled}
 use Rattle.kr_edge.proofs.tape.fill_buffer.Given as goal
@@ -11,6 +12,7 @@ invariant-loop-filled g l = record {
   told : g.F.PlacedFile.told l.file ≡ g.F.PlacedFile.told l.initial.file;
   read : IsFilled (g.F.PlacedFile.told l.initial.file) l.at l.filled l.into;
   later : WasInterrupted 0 (g.F.PlacedFile.stops l.initial.file) (g.F.PlacedFile.stops l.file);
+  calm : NoneFailed (g.F.PlacedFile.stops l.initial.file) (g.F.PlacedFile.stops l.file);
 }
 
 abbrev pub decreases-loop-filled : goal.decreases-loop-filled

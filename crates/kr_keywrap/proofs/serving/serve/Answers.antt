@@ -12,4 +12,5 @@ returns-clause-served g c =
       c.serve_lines.result,
       c.status.ensures,
       subst P (λ i. record { words = c.expand-rounds.ensures.words i; rounds = c.expand-rounds.ensures.rounds i; key_id = c.args.key_id.now }) c.serve_lines.ensures.served,
+      c.serve_lines.ensures.faults,
     )

@@ -23,14 +23,14 @@ returns-in-Err-Failed-clause-made g c =
       Rose-later (g.L.Kms.link c.args.link.now).count (g.L.Kms.link c.healthy_key_id.new.link).count
           (g.L.Kms.link c.wrap_seed.new.link).count c.in_ok-healthy_key_id.ensures.same.later
           (c.in-Err-Failed.ensures.asks.failed (ap Err c.in-Err-Failed.field-0-is)),
-      inr ((told.0, told.1, told.2), (c.in_ok-seed.seed, drawn.0, drawn.1)),
+      inr ((told.0, told.1, told.2), (c.in_ok-seed.seed, drawn.0, drawn.1, drawn.2)),
     )
 
 pub returns-in-Err-NoMemory-clause-made : goal.returns-in-Err-NoMemory-clause-made
 returns-in-Err-NoMemory-clause-made g c =
     let told = c.in_ok-healthy_key_id.ensures.told in
     let drawn = c.in_ok-seed.ensures.drawn in
-    inr ((told.0, told.1, told.2), (c.in_ok-seed.seed, drawn.0, drawn.1))
+    inr ((told.0, told.1, told.2), (c.in_ok-seed.seed, drawn.0, drawn.1, drawn.2))
 
 pub returns-in_err-healthy_key_id-clause-asked : goal.returns-in_err-healthy_key_id-clause-asked
 returns-in_err-healthy_key_id-clause-asked g c =

@@ -1,4 +1,4 @@
-use Rattle.std.proofs.Common.{◌≡◌, ◌-◌, ℕ, List, length, take, drop, ap, ◌∙◌, arith}
+use Rattle.std.proofs.Common.{◌≡◌, ◌-◌, ℕ, List, length, take, drop, Ok, sym, ap, ◌∙◌, arith}
 use Rattle.std.proofs.lemmas.List.{length-drop, length-take}
 use Rattle.kr_aes.specs.InverseCipher.{inverse_cipher}
 use Rattle.kr_modes.proofs.Opening.{cbc_none, cbc_some}
@@ -18,6 +18,7 @@ returns-in-Some-clause-opened c =
     (omega (arith, long, c.requires.from)) (omega (arith, long, c.requires.whole))
     (ap (λ (k : ℕ). take k c.decrypt.new.buffer) (data_length old c.decrypt.new.buffer c.args.from c.decrypt.auto.buffer) ∙ c.decrypt.ensures)
     (omega (arith, length-take size c.decrypt.new.buffer, c.in-Some.ensures.within)) c.in-Some.ensures.value
+    ∙ ap Ok (sym c.wipe_behind.ensures.front)
 
 pub returns-in-None-clause-opened : goal.returns-in-None-clause-opened
 returns-in-None-clause-opened c =

@@ -25,4 +25,5 @@ returns-clause-opened c =
     ∙ ap Ok (ap (gctr encipher c.args.nonce.now) (sym bytes)
     ∙ sym c.gctr.ensures
     ∙ ap (λ (k : ℕ). take k c.gctr.new.buffer) long
-    ∙ sym (take-append-le size c.gctr.new.buffer (drop (from + size) old) (omega (arith, room))))
+    ∙ sym (take-append-le size c.gctr.new.buffer (drop (from + size) old) (omega (arith, room)))
+    ∙ sym c.wipe_behind.ensures.front)

@@ -32,4 +32,5 @@ returns-clause-sealed g c = λ seeds path.
           c.draw.new.into c.requires.fits ∙ sym (ap (λ value. Some value) written),
       c.in-Ok.ensures.drawn.1,
       λ e. absurd (other e),
+      c.in-Ok.ensures.cause.once,
     )

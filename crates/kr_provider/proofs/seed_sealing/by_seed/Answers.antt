@@ -40,6 +40,7 @@ returns-clause-sealed g c = λ seeds is_row.
           c.from_vec.result row c.requires.fits is_row whole,
       c.in-Ok.ensures.drawn.1,
       λ e. absurd (other e),
+      c.in-Ok.ensures.cause.once,
     )
   where
     written_by : (seed path drawn : List ℕ) (start size : ℕ) (value : List ℕ) → List ℕ

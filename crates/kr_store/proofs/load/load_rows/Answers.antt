@@ -4,13 +4,25 @@ use Rattle.kr_store.specs.declared.answers.StoreNo.{StoreNo}
 use Rattle.kr_store.specs.declared.format.Format.{Format}
 use Rattle.kr_store.specs.declared.format.Format.TheVariants.{Two}
 use Rattle.kr_store.specs.declared.kept_row.KeptRow.{KeptRow}
-use Rattle.kr_store.specs.inner.Reading.{AreLoaded, LoadsRows, kept_bytes}
-use Rattle.kr_store.proofs.Loading.{IsReadTo, nothing_loaded, loading_more, loading_ended, row_stops, row_refused, next_small}
+use Rattle.kr_store.specs.inner.Reading.{Moves, AreLoaded, LoadsRows, kept_bytes}
+use Rattle.kr_store.specs.Stores.{load_failed}
+use Rattle.kr_store.proofs.Steps.{moves_both}
+use Rattle.kr_store.proofs.Loading.{IsReadTo, nothing_loaded, loading_more, loading_ended, row_stops, row_refused, next_small, refusal_failed}
 use Rattle.kr_store.proofs.load.load_rows.Goals as goal
 
 pub returns-then-is_at_end-clause-advances : goal.returns-then-is_at_end-clause-advances
-returns-then-is_at_end-clause-advances g c =
-    record { moves = c.is_at_end.ensures.moves; failed = λ e. cc }
+returns-then-is_at_end-clause-advances g c = c.is_at_end.ensures.moves
+
+-- the row's reading stops, and so does that of all
+pub returns-in-Err-clause-advances : goal.returns-in-Err-clause-advances
+returns-in-Err-clause-advances g c =
+    let at = c.place-at.result in
+    subst (λ (no : StoreNo). Moves (load_failed no) c.args.reader.now c.row.new.self)
+    (sym c.load_refusal.ensures)
+    (subst (λ failed. Moves failed c.args.reader.now c.row.new.self)
+    (sym (refusal_failed c.in-Err.stop at))
+    (moves_both c.args.reader.now c.loop-alloc.reader c.row.new.self c.loop-alloc.invariant.moves
+    c.in-Err.ensures.reads.advances))
 
 pub returns-then-is_at_end-clause-loads : goal.returns-then-is_at_end-clause-loads
 returns-then-is_at_end-clause-loads g c =
@@ -43,7 +55,7 @@ returns-then-not-allows-clause-loads g c =
     c.in-Ok.row k c.place-at.result l.invariant
     next_is (next_small c.args.reader.now l.reader c.in_ok-format.format l.rows.0 l.index k
     c.place-at.result l.invariant next_is c.place-at.ensures c.place-at.type_inv)
-    c.place-at.ensures c.in-Ok.ensures.reads.gives c.row.ensures.reads.advances.moves
+    c.place-at.ensures c.in-Ok.ensures.reads.gives c.in-Ok.ensures.reads.advances
     c.in-Ok.ensures.rule (sym c.allows.ensures ∙ c.if-not-allows.true)
 
 pub loop-alloc-preserved : goal.loop-alloc-preserved
@@ -57,7 +69,7 @@ loop-alloc-preserved g c =
     c.add_row.new.index c.in-Ok.row k l.invariant
     next_is (next_small c.args.reader.now l.reader c.in_ok-format.format l.rows.0 l.index k
     c.place-at.result l.invariant next_is c.place-at.ensures c.place-at.type_inv)
-    c.row.ensures.reads.advances.moves c.in-Ok.ensures.reads.gives c.in-Ok.ensures.rule
+    c.in-Ok.ensures.reads.advances c.in-Ok.ensures.reads.gives c.in-Ok.ensures.rule
     (sym c.allows.ensures ∙ c.if-not-allows.false) c.in-Ok-add_row.ensures.index)
 
 pub returns-clause-loads : goal.returns-clause-loads

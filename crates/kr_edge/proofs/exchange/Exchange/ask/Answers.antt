@@ -9,12 +9,14 @@ returns-then-self-clause-err g c = cut_before _ _ c.if-self.true
 
 pub returns-in_err-write_all-clause-err : goal.returns-in_err-write_all-clause-err
 returns-in_err-write_all-clause-err g c = not_asked c.from_residual.result _ _ _
-    c.if-self.false c.in_err-write_all.ensures.err c.in_err-write_all.ensures.cause.failed refl
+    c.if-self.false c.in_err-write_all.ensures.err c.in_err-write_all.ensures.cause.failed
+    c.in_err-write_all.ensures.cause.once refl refl
 
 pub returns-in_err-size-clause-err : goal.returns-in_err-size-clause-err
 returns-in_err-size-clause-err g c = not_read c.from_residual-in_err-size.result _ _ _
     (length c.read_line.new.line) c.if-self.false c.in_ok-write_all.ensures.ok
-    (omega (arith, c.args.self.now.line.size)) c.in_err-size.ensures.err refl
+    (omega (arith, c.args.self.now.line.size)) c.in_err-size.ensures.err
+    c.in_ok-write_all.ensures.cause.once refl
 
 -- what is broken doesn't come as far as a write
 pub returns-clause-broken : goal.returns-clause-broken

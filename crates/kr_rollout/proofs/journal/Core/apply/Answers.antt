@@ -11,6 +11,7 @@ use Rattle.kr_rollout.proofs.journal.Core.apply.Goals as goal
 pub serve-answer-requires-clause-may : goal.serve-answer-requires-clause-may
 serve-answer-requires-clause-may g c =
     may_serve c.self.inside.rollout.opening c.self.inside.rollout.state
+    c.self.inside.rollout.torn
     (entries_by c.self.inside.rollout.state c.self.inside.journal.0) c.args.seat c.args.event
     c.self.invariant.legal c.self.invariant.budgets c.self.invariant.leads
     (subst (λ (x : CoreState). MayAsk x.opening c.args.seat

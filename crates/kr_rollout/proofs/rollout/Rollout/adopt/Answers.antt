@@ -33,7 +33,6 @@ invariant_of-self g c =
           c.args.seat c.args.replica c.in-Some.generation c.hold.ensures l a.0.1 (a.1 ∙ c.in-Some.is),
       c.self.invariant.1,
       c.self.invariant.2,
-      c.self.invariant.3,
     )
 
 pub returns-in-Ok : goal.returns-in-Ok

@@ -23,5 +23,4 @@ invariant_of-self g c =
           c.self.invariant.0 c.args.replica may c.leave.ensures,
       c.self.invariant.1,
       c.self.invariant.2,
-      c.self.invariant.3,
     )

@@ -20,5 +20,4 @@ invariant_of-self g c =
           c.args.seat c.in-Some.generation c.release.ensures l is,
       c.self.invariant.1,
       c.self.invariant.2,
-      c.self.invariant.3,
     )

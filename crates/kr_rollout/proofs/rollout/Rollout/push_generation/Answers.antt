@@ -64,7 +64,6 @@ invariant_of-self g c =
         length-append c.self.inside.generations.0
             (record { replica = c.args.replica; published = c.args.published } ∷ []),
       ),
-      c.self.invariant.3,
     )
 
 pub returns-clause-number : goal.returns-clause-number

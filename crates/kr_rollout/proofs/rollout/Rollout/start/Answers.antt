@@ -1,4 +1,4 @@
-use Rattle.std.proofs.Common.{ℕ, List, length, Option, refl, inl, ap, ◌∙◌, arith}
+use Rattle.std.proofs.Common.{ℕ, List, length, Option, refl, ap, arith}
 use Rattle.std.specs.Prelude.{sum}
 use Rattle.kr_provider.specs.Publication.{Publication}
 use Rattle.kr_rollout.proofs.Beginning.{opened_rollout, starts}
@@ -20,10 +20,6 @@ invariant_of-result g c = (
     ap (λ (l : List ℕ). sum l) c.in-Ok.ensures.reloads,
     ap (λ (l : List (Option Publication)). length l) c.as_slice.ensures,
   ),
-  record {
-    later = omega (arith, c.faults-first_faults.ensures);
-    torn_since = λ e. inl (c.torn-first_torn.ensures ∙ e);
-  },
 )
 
 pub returns-clause-opens : goal.returns-clause-opens

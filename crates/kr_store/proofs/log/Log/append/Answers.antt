@@ -29,9 +29,16 @@ still_held (Some held) now end torn h k = subst (λ t. HoldsEnd t end true) (sym
 )
 
 pub invariant_of-self-in-Err : goal.invariant_of-self-in-Err
-invariant_of-self-in-Err g c = still_held (g.T.Tape.told c.self.inside.tape)
-    (g.T.Tape.told c.put_at.new.self) c.self.inside.end c.self.inside.torn c.self.invariant
-    c.in-Err.ensures.bytes
+invariant_of-self-in-Err g c = (
+  still_held (g.T.Tape.told c.self.inside.tape) (g.T.Tape.told c.put_at.new.self) c.self.inside.end
+      c.self.inside.torn c.self.invariant.0 c.in-Err.ensures.bytes,
+  λ e. cc,
+)
+
+-- what was cut is settled before this is put
+pub put_at-requires-clause-cuts : goal.put_at-requires-clause-cuts
+put_at-requires-clause-cuts g c = c.self.invariant.1
+    (ap (λ (a : Tail). a.torn) c.self.view_is ∙ c.in_ok-ready.ensures.readies.2)
 
 pub returns-in-Err-clause-extends : goal.returns-in-Err-clause-extends
 returns-in-Err-clause-extends g c =

@@ -3,8 +3,8 @@ use Rattle.std.proofs.Common.{length, ◌+◌, ◌<◌, Err, subst, sym, ◌∙�
 use Rattle.kr_store.specs.inner.Reading.{Ahead, Breaks, Fills}
 use Rattle.kr_store.specs.Breaches.{part}
 use Rattle.kr_store.specs.declared.answers.Cause.TheVariants.{Torn}
-use Rattle.kr_store.proofs.Steps.{Filling, torn, filling_more, filled, over, rest_length, short_behind}
-use Rattle.kr_store.proofs.Fillings.{stays_torn, begins_filling, stops_filling, not_filled}
+use Rattle.kr_store.proofs.Steps.{Filling, moves_both, torn, filling_more, filled, over, rest_length, short_behind}
+use Rattle.kr_store.proofs.Fillings.{stays_torn, begins_filling, not_filled}
 use Rattle.kr_store.proofs.reader.Reader.fill.Goals as goal
 
 pub returns-then-self-into-clause-read : goal.returns-then-self-into-clause-read
@@ -21,7 +21,7 @@ loop-done-preserved g c = subst (λ b. Filling c.args.self.now c.some.new.self b
     (filling_more c.args.self.now c.loop-done.self c.some.new.self c.loop-done.into c.some.new.into
     c.loop-done.done c.in-Ok.n c.loop-done.invariant c.loop-done.invariant.within
     (c.some.auto.into ∙ rest_length c.loop-done.into c.loop-done.done) c.in-Ok.ensures.read.1
-    c.some.ensures.advances.moves c.in-Ok.ensures.read.2)
+    c.in-Ok.ensures.advances c.in-Ok.ensures.read.2)
 
 pub returns-in-Err-clause-short : goal.returns-in-Err-clause-short
 returns-in-Err-clause-short g c = short_behind c.args.self.now c.loop-done.self c.some.new.self
@@ -39,8 +39,8 @@ returns-then-self-into-clause-short g c = inl (subst
     (omega (arith, c.if-self-into.true)))
 
 pub returns-in-Err-clause-advances : goal.returns-in-Err-clause-advances
-returns-in-Err-clause-advances g c = stops_filling c.args.self.now c.loop-done.self c.some.new.self
-    c.in-Err.stop c.loop-done.invariant.moves c.in-Err.ensures.advances
+returns-in-Err-clause-advances g c = moves_both c.args.self.now c.loop-done.self c.some.new.self
+    c.loop-done.invariant.moves c.in-Err.ensures.advances
 
 pub returns-in-Err-clause-read : goal.returns-in-Err-clause-read
 returns-in-Err-clause-read g c = subst (λ b. Fills {A = Unit {0}} c.args.self.now c.some.new.self b
@@ -51,10 +51,7 @@ returns-in-Err-clause-read g c = subst (λ b. Fills {A = Unit {0}} c.args.self.n
     (c.some.auto.into ∙ rest_length c.loop-done.into c.loop-done.done) c.in-Err.ensures.read)
 
 pub returns-clause-advances : goal.returns-clause-advances
-returns-clause-advances g c = record {
-  moves = c.loop-done.invariant.moves;
-  failed = λ e. cc;
-}
+returns-clause-advances g c = c.loop-done.invariant.moves
 
 pub returns-clause-read : goal.returns-clause-read
 returns-clause-read g c = filled c.args.self.now c.loop-done.self c.loop-done.into

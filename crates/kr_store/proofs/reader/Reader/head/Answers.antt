@@ -20,7 +20,7 @@ pub returns-in-Err-clause-reads : goal.returns-in-Err-clause-reads
 returns-in-Err-clause-reads g c = let k = c.args.revision in
     stops_behind _ c.kind.new.self c.revision.new.self _ kind_part (behind_kind k) c.in_ok-kind.kind
     (λ (u : Unit {0}). to_be_bytes w64 k) (head_bytes k) c.in-Err.stop
-    c.in_ok-kind.ensures.reads.gives c.kind.ensures.reads.advances.moves
+    c.in_ok-kind.ensures.reads.gives c.in_ok-kind.ensures.reads.advances
     (reads_kind c.in_ok-kind.kind)
     (stops_first c.kind.new.self c.revision.new.self (revision_part k)
     (behind_revision c.in_ok-kind.kind) (λ (u : Unit {0}). to_be_bytes w64 k)
@@ -30,11 +30,11 @@ pub returns-in-Err-path-clause-reads : goal.returns-in-Err-path-clause-reads
 returns-in-Err-path-clause-reads g c = let k = c.args.revision in
     stops_behind _ c.kind.new.self c.path.new.self _ kind_part
     (behind_kind k) c.in_ok-kind.kind text_bytes (head_bytes k) c.in-Err-path.stop
-    c.in_ok-kind.ensures.reads.gives c.kind.ensures.reads.advances.moves
+    c.in_ok-kind.ensures.reads.gives c.in_ok-kind.ensures.reads.advances
     (reads_kind c.in_ok-kind.kind)
     (stops_behind c.kind.new.self c.revision.new.self c.path.new.self _ (revision_part k)
     (behind_revision c.in_ok-kind.kind) k text_bytes text_bytes c.in-Err-path.stop
-    c.in-Ok.ensures.reads.gives c.revision.ensures.reads.advances.moves
+    c.in-Ok.ensures.reads.gives c.in-Ok.ensures.reads.advances
     (λ rest. reads_revision k rest c.ranges.revision.fits)
     (stops_first c.revision.new.self c.path.new.self path_part
     (λ path rest. Ok ((c.in_ok-kind.kind, path), rest)) text_bytes text_bytes c.in-Err-path.stop

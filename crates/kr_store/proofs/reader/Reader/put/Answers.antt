@@ -26,7 +26,7 @@ returns-in-Err-clause-reads g c =
     let resource = c.in_ok-resource.resource in
     stops_behind _ c.resource.new.self c.check.new.self _ resource_part (behind_resource format)
     resource check_bytes put_bytes c.in-Err.stop c.in_ok-resource.ensures.reads.gives
-    c.resource.ensures.reads.advances.moves
+    c.in_ok-resource.ensures.reads.advances
     (λ rest. reads_resource resource rest c.in_ok-resource.ensures.rule)
     (stops_first c.resource.new.self c.check.new.self (check_part format) (behind_check resource)
     check_bytes check_bytes c.in-Err.stop c.in-Err.ensures.reads)
@@ -38,11 +38,11 @@ returns-in-Err-value-clause-reads g c =
     let check = c.in-Ok.check in
     stops_behind _ c.resource.new.self c.value.new.self _ resource_part (behind_resource format)
     resource value_bytes put_bytes c.in-Err-value.stop c.in_ok-resource.ensures.reads.gives
-    c.resource.ensures.reads.advances.moves
+    c.in_ok-resource.ensures.reads.advances
     (λ rest. reads_resource resource rest c.in_ok-resource.ensures.rule)
     (stops_behind c.resource.new.self c.check.new.self c.value.new.self _ (check_part format)
     (behind_check resource) check value_bytes value_bytes c.in-Err-value.stop
-    c.in-Ok.ensures.reads.gives c.check.ensures.reads.advances.moves
+    c.in-Ok.ensures.reads.gives c.in-Ok.ensures.reads.advances
     (λ rest. reads_check format check rest c.in-Ok.ensures.rule)
     (stops_first c.check.new.self c.value.new.self value_part
     (λ stored rest. Ok (Put resource stored check, rest)) value_bytes value_bytes

@@ -21,7 +21,7 @@ returns-in-Err-put-clause-reads g c =
     let head = c.in-Ok.head in
     stops_behind _ c.head.new.self c.put.new.self _ (head_part k) (behind_head format) head
     put_bytes (kept_bytes k) c.in-Err-put.stop c.in-Ok.ensures.reads.gives
-    c.head.ensures.reads.advances.moves
+    c.in-Ok.ensures.reads.advances
     (λ rest. reads_head k head.0 head.1 rest c.ranges.revision.fits c.in-Ok.ensures.rule)
     (subst (λ (kd : RowKind). Reads c.head.new.self c.put.new.self put_bytes
     (λ rest. behind (change_part format kd rest)

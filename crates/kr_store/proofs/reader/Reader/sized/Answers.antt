@@ -9,17 +9,17 @@ use Rattle.kr_store.proofs.reader.Reader.sized.Goals as goal
 
 pub returns-then-n-most-clause-reads : goal.returns-then-n-most-clause-reads
 returns-then-n-most-clause-reads g c = was_broken _ c.number_16.new.self _ _ _
-    c.number_16.ensures.reads.advances.moves
+    c.in_ok-n.ensures.reads.advances
     (breaks_here _ c.number_16.new.self _ _ _
     c.in_ok-n.ensures.reads.gives
-    c.number_16.ensures.reads.advances.moves
+    c.in_ok-n.ensures.reads.advances
     (λ rest. bad_size c.args.most c.in_ok-n.n rest c.in_ok-n.ensures.fits c.if-n-most.true))
 
 pub returns-in-Err-clause-reads : goal.returns-in-Err-clause-reads
 returns-in-Err-clause-reads g c = stops_behind _ c.number_16.new.self c.part.new.self _
     number_16 (λ n rest. if nat_le n c.args.most then part n rest else Err BadRow) c.in_ok-n.n
     items_of sized_bytes c.in-Err.stop c.in_ok-n.ensures.reads.gives
-    c.number_16.ensures.reads.advances.moves
+    c.in_ok-n.ensures.reads.advances
     (λ rest. reads_16 c.in_ok-n.n rest c.in_ok-n.ensures.fits)
     (subst (λ b. Reads c.number_16.new.self c.part.new.self items_of
     (λ rest. if b then part c.in_ok-n.n rest else Err BadRow) (Err c.in-Err.stop))

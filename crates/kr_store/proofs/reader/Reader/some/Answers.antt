@@ -1,11 +1,9 @@
 -- Answers of Reader::some.
-use Rattle.std.proofs.Common.{◌≡◌, ◌+◌, ◌-◌, ◌<◌, ◌≤◌, min, ◌++◌, length, take, drop, None, Ok, Err, refl, sym, ◌∙◌, ap, subst, arith, length-take}
+use Rattle.std.proofs.Common.{◌≡◌, ◌+◌, ◌-◌, ◌<◌, ◌≤◌, min, ◌++◌, length, take, drop, None, refl, sym, ◌∙◌, ap, subst, arith, length-take}
 use Rattle.std.proofs.lemmas.List.{take_at}
-use Rattle.kr_store.specs.declared.answers.Cause.TheVariants.{Torn}
-use Rattle.kr_store.specs.declared.answers.LoadStop.TheVariants.{Breach, Failed}
 use Rattle.kr_store.specs.inner.Reading.{Ahead, Takes}
 use Rattle.kr_store.proofs.Steps.{rest_of, seen, untold}
-use Rattle.kr_store.proofs.Lookahead.{takes_next, reads_front, handed, goes_on, none_ahead, hands_on, hands_first, still_room, read_ahead}
+use Rattle.kr_store.proofs.Lookahead.{takes_next, reads_front, handed, goes_on, none_ahead, hands_on, hands_first, still_room, read_ahead, goes_by}
 use Rattle.kr_store.proofs.reader.Reader.some.Goals as goal
 
 pub returns-then-used-self-clause-read : goal.returns-then-used-self-clause-read
@@ -76,6 +74,7 @@ invariant_of-self g c =
       i.4,
       i.5,
       i.6,
+      i.7,
     )
 
 pub returns-then-used-self-clause-advances : goal.returns-then-used-self-clause-advances
@@ -87,29 +86,26 @@ returns-then-used-self-clause-advances g c =
     let within : r.place + length c.args.into.now ≤ r.end =
     subst (λ (a : Ahead). a.place + length c.args.into.now ≤ a.end) (sym c.self.view_is)
     c.requires.within in
-    goes_on told told r.place (r.place + n) r.end count count (Ok n) c.args.self.now refl
-    c.self.invariant.1 (omega (arith, within, c.fill_front-n.ensures.count)) (omega arith)
-    (λ e. cc) c.self.view_is
+    goes_by told r.place (r.place + n) r.end count c.args.self.now c.self.invariant.1
+    (omega (arith, within, c.fill_front-n.ensures.count)) c.self.view_is
 
 pub returns-in-Err-clause-advances : goal.returns-in-Err-clause-advances
 returns-in-Err-clause-advances g c =
     let r = c.self.inside in
     let now = c.read_at.new.self in
     goes_on (g.T.Tape.told r.tape) (g.T.Tape.told now) r.place r.place r.end
-    (g.T.Tape.count r.tape) (g.T.Tape.count now) (Err Failed) c.args.self.now
-    c.in-Err.ensures.same c.self.invariant.1
-    c.self.invariant.0
-    c.in-Err.ensures.cause.later (λ _. c.in-Err.ensures.cause.failed) c.self.view_is
+    (g.T.Tape.count r.tape) (g.T.Tape.count now) _ c.args.self.now
+    c.in-Err.ensures.same c.self.invariant.1 c.self.invariant.0 c.in-Err.ensures.cause
+    c.self.view_is
 
 pub returns-then-n-eq0-clause-advances : goal.returns-then-n-eq0-clause-advances
 returns-then-n-eq0-clause-advances g c =
     let r = c.self.inside in
     let now = c.read_at.new.self in
     goes_on (g.T.Tape.told r.tape) (g.T.Tape.told now) r.place r.place r.end
-    (g.T.Tape.count r.tape) (g.T.Tape.count now) (Err (Breach Torn)) c.args.self.now
-    c.in-Ok.ensures.same c.self.invariant.1
-    c.self.invariant.0
-    c.in-Ok.ensures.cause.later (λ e. cc) c.self.view_is
+    (g.T.Tape.count r.tape) (g.T.Tape.count now) _ c.args.self.now
+    c.in-Ok.ensures.same c.self.invariant.1 c.self.invariant.0 c.in-Ok.ensures.cause
+    c.self.view_is
 
 pub returns-then-into-len-clause-advances : goal.returns-then-into-len-clause-advances
 returns-then-into-len-clause-advances g c =
@@ -120,30 +116,28 @@ returns-then-into-len-clause-advances g c =
     subst (λ (a : Ahead). a.place + length c.args.into.now ≤ a.end) (sym c.self.view_is)
     c.requires.within in
     goes_on (g.T.Tape.told r.tape) (g.T.Tape.told now) r.place (r.place + n) r.end
-    (g.T.Tape.count r.tape) (g.T.Tape.count now) (Ok n) c.args.self.now
+    (g.T.Tape.count r.tape) (g.T.Tape.count now) _ c.args.self.now
     c.in-Ok.ensures.same c.self.invariant.1
-    (omega (arith, within, c.in-Ok.ensures.bound.0, c.read_at.auto.into))
-    c.in-Ok.ensures.cause.later (λ e. cc) c.self.view_is
+    (omega (arith, within, c.in-Ok.ensures.bound.0, c.read_at.auto.into)) c.in-Ok.ensures.cause
+    c.self.view_is
 
 pub returns-in-Err-read_at-clause-advances : goal.returns-in-Err-read_at-clause-advances
 returns-in-Err-read_at-clause-advances g c =
     let r = c.self.inside in
     let now = c.read_at-2.new.self in
     goes_on (g.T.Tape.told r.tape) (g.T.Tape.told now) r.place r.place r.end
-    (g.T.Tape.count r.tape) (g.T.Tape.count now) (Err Failed) c.args.self.now
-    c.in-Err-read_at.ensures.same c.self.invariant.1
-    c.self.invariant.0
-    c.in-Err-read_at.ensures.cause.later (λ _. c.in-Err-read_at.ensures.cause.failed) c.self.view_is
+    (g.T.Tape.count r.tape) (g.T.Tape.count now) _ c.args.self.now
+    c.in-Err-read_at.ensures.same c.self.invariant.1 c.self.invariant.0
+    c.in-Err-read_at.ensures.cause c.self.view_is
 
 pub returns-then-found-eq0-clause-advances : goal.returns-then-found-eq0-clause-advances
 returns-then-found-eq0-clause-advances g c =
     let r = c.self.inside in
     let now = c.read_at-2.new.self in
     goes_on (g.T.Tape.told r.tape) (g.T.Tape.told now) r.place r.place r.end
-    (g.T.Tape.count r.tape) (g.T.Tape.count now) (Err (Breach Torn)) c.args.self.now
-    c.in-Ok-read_at.ensures.same c.self.invariant.1
-    c.self.invariant.0
-    c.in-Ok-read_at.ensures.cause.later (λ e. cc) c.self.view_is
+    (g.T.Tape.count r.tape) (g.T.Tape.count now) _ c.args.self.now
+    c.in-Ok-read_at.ensures.same c.self.invariant.1 c.self.invariant.0
+    c.in-Ok-read_at.ensures.cause c.self.view_is
 
 pub returns-clause-advances : goal.returns-clause-advances
 returns-clause-advances g c =
@@ -154,24 +148,26 @@ returns-clause-advances g c =
     subst (λ (a : Ahead). a.place + length c.args.into.now ≤ a.end) (sym c.self.view_is)
     c.requires.within in
     goes_on (g.T.Tape.told r.tape) (g.T.Tape.told now) r.place (r.place + n) r.end
-    (g.T.Tape.count r.tape) (g.T.Tape.count now) (Ok n) c.args.self.now
+    (g.T.Tape.count r.tape) (g.T.Tape.count now) _ c.args.self.now
     c.in-Ok-read_at.ensures.same c.self.invariant.1
-    (omega (arith, within, c.fill_front-n-2.ensures.count))
-    c.in-Ok-read_at.ensures.cause.later (λ e. cc) c.self.view_is
+    (omega (arith, within, c.fill_front-n-2.ensures.count)) c.in-Ok-read_at.ensures.cause
+    c.self.view_is
 
 pub invariant_of-self-in-Err : goal.invariant_of-self-in-Err
 invariant_of-self-in-Err g c =
     let r = c.self.inside in
     let i = c.self.invariant in
     none_ahead (g.T.Tape.told r.tape) (g.T.Tape.told c.read_at.new.self) r.place r.end
-    (length r.ahead.items) c.in-Err.ensures.same i.0 i.1 i.4
+    (length r.ahead.items) (g.T.Tape.loose c.read_at.new.self) c.in-Err.ensures.same i.0 i.1 i.4
+    (c.in-Err.ensures.cuts ∙ i.7)
 
 pub invariant_of-self-then-n-eq0 : goal.invariant_of-self-then-n-eq0
 invariant_of-self-then-n-eq0 g c =
     let r = c.self.inside in
     let i = c.self.invariant in
     none_ahead (g.T.Tape.told r.tape) (g.T.Tape.told c.read_at.new.self) r.place r.end
-    (length r.ahead.items) c.in-Ok.ensures.same i.0 i.1 i.4
+    (length r.ahead.items) (g.T.Tape.loose c.read_at.new.self) c.in-Ok.ensures.same i.0 i.1 i.4
+    (c.in-Ok.ensures.cuts ∙ i.7)
 
 pub invariant_of-self-then-into-len : goal.invariant_of-self-then-into-len
 invariant_of-self-then-into-len g c =
@@ -181,8 +177,9 @@ invariant_of-self-then-into-len g c =
     subst (λ (a : Ahead). a.place + length c.args.into.now ≤ a.end) (sym c.self.view_is)
     c.requires.within in
     none_ahead (g.T.Tape.told r.tape) (g.T.Tape.told c.read_at.new.self) (r.place + c.in-Ok.n)
-    r.end (length r.ahead.items) c.in-Ok.ensures.same
+    r.end (length r.ahead.items) (g.T.Tape.loose c.read_at.new.self) c.in-Ok.ensures.same
     (omega (arith, within, c.in-Ok.ensures.bound.0, c.read_at.auto.into)) i.1 i.4
+    (c.in-Ok.ensures.cuts ∙ i.7)
 
 pub returns-then-n-eq0-clause-read : goal.returns-then-n-eq0-clause-read
 returns-then-n-eq0-clause-read g c =
@@ -222,11 +219,12 @@ invariant_of-self-2 g c =
     c.requires.within in
     read_ahead (g.T.Tape.told r.tape) (g.T.Tape.told c.read_at-2.new.self) r.place n r.end found
     r.ahead.len c.read_at-2.new.into (drop (length c.read_at-2.new.into) r.ahead.items)
-    c.in-Ok-read_at.ensures.same i.1 (omega (arith, within, c.fill_front-n-2.ensures.count))
+    (g.T.Tape.loose c.read_at-2.new.self) c.in-Ok-read_at.ensures.same i.1 (omega (arith, within, c.fill_front-n-2.ensures.count))
     (omega (arith, c.fill_front-n-2.ensures.count, length-take found c.deref-2.result.now))
     (c.read_at-2.auto.into ∙ c.deref_mut.ensures.len)
     (omega (arith, i.4, c.read_at-2.auto.into, ap length c.deref_mut.ensures.value))
     c.in-Ok-read_at.ensures.bound.0 c.in-Ok-read_at.ensures.bytes
+    (c.in-Ok-read_at.ensures.cuts ∙ i.7)
 
 pub invariant_of-self-in-Err-read_at : goal.invariant_of-self-in-Err-read_at
 invariant_of-self-in-Err-read_at g c =
@@ -235,9 +233,11 @@ invariant_of-self-in-Err-read_at g c =
     let into = c.read_at-2.new.into in
     let rest = drop (length into) r.ahead.items in
     none_ahead (g.T.Tape.told r.tape) (g.T.Tape.told c.read_at-2.new.self) r.place r.end
-    (length (take r.ahead.len (into ++ rest))) c.in-Err-read_at.ensures.same i.0 i.1
+    (length (take r.ahead.len (into ++ rest))) (g.T.Tape.loose c.read_at-2.new.self)
+    c.in-Err-read_at.ensures.same i.0 i.1
     (still_room into rest r.ahead.len (c.read_at-2.auto.into ∙ c.deref_mut.ensures.len)
     (omega (arith, i.4, c.read_at-2.auto.into, ap length c.deref_mut.ensures.value)))
+    (c.in-Err-read_at.ensures.cuts ∙ i.7)
 
 pub invariant_of-self-then-found-eq0 : goal.invariant_of-self-then-found-eq0
 invariant_of-self-then-found-eq0 g c =
@@ -246,6 +246,8 @@ invariant_of-self-then-found-eq0 g c =
     let into = c.read_at-2.new.into in
     let rest = drop (length into) r.ahead.items in
     none_ahead (g.T.Tape.told r.tape) (g.T.Tape.told c.read_at-2.new.self) r.place r.end
-    (length (take r.ahead.len (into ++ rest))) c.in-Ok-read_at.ensures.same i.0 i.1
+    (length (take r.ahead.len (into ++ rest))) (g.T.Tape.loose c.read_at-2.new.self)
+    c.in-Ok-read_at.ensures.same i.0 i.1
     (still_room into rest r.ahead.len (c.read_at-2.auto.into ∙ c.deref_mut.ensures.len)
     (omega (arith, i.4, c.read_at-2.auto.into, ap length c.deref_mut.ensures.value)))
+    (c.in-Ok-read_at.ensures.cuts ∙ i.7)
