@@ -42,7 +42,7 @@ FORMS = [
     (ETCD, "etcd tells that there is more, and tells no key", "etcd answers what can't be", "is something between the bridge and etcd? ask the endpoint itself"),
     (ETCD, "standard output is closed, so nothing could be told; nothing was done", "the call has no standard output (`>&-`), and did nothing", "give it one; /dev/null is one"),
     (ETCD, "standard output: *", "standard output took no more ({0}); what it should have got stands on standard error", "is its disk full, or did its reader leave, as `| head` does?"),
-    (ETCD, "memory lacked", "the system gave no more memory", "parts are smaller: --part, --only, a smaller --page"),
+    (ETCD, "out of memory", "the system gave no more memory", "parts are smaller: --part, --only, a smaller --page"),
     (ETCD, "*, and there is no etcdctl", "etcd can be asked neither by gRPC ({0}) nor by etcdctl", PACKAGES),
     (ETCD, "etcdctl can't be asked for keys from one on that holds a NUL", "a key has a zero byte, and etcdctl takes no such word", "read by gRPC: install python3-grpcio"),
     (ETCD, "* writes no JSON of etcdctl", "what {0} holds or writes isn't JSON as `etcdctl -w json` writes it", "write the file by: etcdctl get --prefix /registry/ -w json"),

@@ -44,7 +44,7 @@ def run_program(name: str, work: Callable[[], int], no_answer: int = 1, writes: 
     except KeyboardInterrupt:
         return INTERRUPTED
     except MemoryError:
-        say(f"{name}: memory lacked")
+        say(f"{name}: out of memory")
         return FAILED
     except OSError as no:
         place = f"{os.fsdecode(no.filename)}: " if no.filename else ""
